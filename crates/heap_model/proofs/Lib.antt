@@ -1,0 +1,9 @@
+pub mod ListLemmas
+pub mod GateSound
+pub mod Others
+pub mod Stable
+pub mod Own
+pub mod Agreement
+pub mod Undisturbed
+pub mod Revealed
+pub mod Homes

@@ -1,0 +1,14 @@
+pub mod Limits
+pub mod Geometry
+pub mod Buckets
+pub mod Runs
+pub mod State
+pub mod Backend
+pub mod Ranges
+pub mod Bits
+pub mod Stay
+pub mod CallState
+pub mod Search
+pub mod Legal
+pub mod History
+pub mod Agreement
