@@ -1,7 +1,8 @@
 -- What the heap is at one moment.
-use Rattle.std.specs.Prelude.{ℕ, ◌+◌, ◌*◌, ◌-◌, ◌==◌, Bool, true, false, ◌&&◌, not, nat_lt, List, [], ◌∷◌, ◌++◌, length, filter, filter_map, Option, Some, None, option_map, if◌then◌else◌}
+use Rattle.std.specs.Prelude.{ℕ, ◌+◌, ◌*◌, ◌-◌, ◌==◌, ◌<◌, Bool, true, false, ◌&&◌, not, nat_lt, List, [], ◌∷◌, ◌++◌, length, filter, filter_map, Option, Some, None, option_map, if◌then◌else◌}
 use Rattle.std.specs.List.{list_any, find}
 use Rattle.heap_model.specs.declared.Limits.{Limits}
+use Rattle.heap_model.specs.Limits.{AreValid}
 use Rattle.heap_model.specs.declared.Kind.{Kind}
 use Rattle.heap_model.specs.declared.Kind.TheVariants as kinds
 use Rattle.heap_model.specs.declared.Layer.{Layer}
@@ -126,6 +127,11 @@ pub record Setting : Type 0 where
   pub seed : ℕ
   pub slot : ℕ → ℕ  -- of a caller
   pub stream : ℕ → ℕ  -- of a caller
+
+-- Limits that a heap can have, and for each caller a slot that it has. What is said of all legal histories rests on this.
+pub record IsValidSetting (s : Setting) : Type 0 where
+  pub limits : AreValid s.limits
+  pub slot : (c : ℕ) → c < s.limits.callers → s.slot c < s.limits.slots
 
 abbrev pub opening : State
 opening = record {
