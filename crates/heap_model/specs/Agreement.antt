@@ -1,4 +1,4 @@
--- What a caller can rely on: all that it alone decides.
+-- What a caller can rely on: all that it alone decides, whatever entries others add.
 use Rattle.std.specs.Prelude.{◌≡◌, ℕ, ◌==◌, Bool, true, false, ◌&&◌, ◌||◌, not, List, [], ◌∷◌}
 use Rattle.std.specs.List.{find, AllByRecursion}
 use Rattle.heap_model.specs.declared.Act.{Act}
@@ -16,7 +16,7 @@ use Rattle.heap_model.specs.Stay.{for_some}
 use Rattle.heap_model.specs.Legal.{may_touch, after}
 use Rattle.heap_model.specs.declared.Entry.{Entry}
 
--- the heap of two moments is one, whoever stands at its gate and its locks
+-- two configurations have one heap, whoever stands at its gate and its locks
 pub record SameHeap (m n : Configuration) : Type 0 where
   pub back : m.state.back ≡ n.state.back
   pub vs : m.state.vs ≡ n.state.vs
@@ -60,7 +60,7 @@ is_locked_at m c a = for_some (find (has_address a) (exclusive_places m.state c)
 abbrev pub is_exclusive_at : Configuration → ℕ → ℕ → Bool
 is_exclusive_at m c a = for_some (find (has_address a) (exclusive_places m.state c)) (λ p. may_touch (caller_view m c) p.layer)
 
--- the block that a reallocation moves is kept
+-- only c changes the block that a reallocation moves
 abbrev pub moves_exclusive : Configuration → ℕ → Call → Bool
 moves_exclusive m c (calls.Realloc a n flags) = is_exclusive_at m c a
 moves_exclusive m c _ = true
@@ -105,7 +105,7 @@ abbrev pub is_prepared : Setting → Configuration → ℕ → List Entry → Bo
 is_prepared s n c [] = true
 is_prepared s n c (e ∷ es) = e.caller == c && is_stable n c e.act && is_prepared s (after s n e) c es
 
--- n, with the heap of m: what c is shown when it takes a lock, the heap lock, or a place of LFH
+-- n, with the heap of m: what is revealed to c when it takes a lock, the heap lock, or a place of LFH
 abbrev pub revealed : Configuration → Configuration → Configuration
 revealed m n = record {
   state = record { gate = n.state.gate; back = m.state.back; vs = m.state.vs; lfh = m.state.lfh; large = m.state.large; words = m.state.words };

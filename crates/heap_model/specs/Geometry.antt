@@ -1,4 +1,4 @@
--- Pages, granules and the routes of sizes.
+-- Pages, granules and the routes of sizes: the allocation types of Yason, Windows 10 Segment Heap Internals (2016), with limits chosen here.
 use Rattle.std.specs.Prelude.{ℕ, ◌+◌, ◌*◌, ◌/◌, ◌-◌, max, nat_le, Bool, true, false, if◌then◌else◌}
 
 -- the bytes of a page, the unit of the back end

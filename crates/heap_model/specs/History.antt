@@ -1,4 +1,4 @@
--- Whole histories.
+-- Whole histories: lists of entries, each of which may follow those before it.
 use Rattle.std.specs.Prelude.{ℕ, suc, ◌==◌, Bool, true, false, ◌&&◌, List, [], ◌∷◌, filter, IsTrue, None}
 use Rattle.heap_model.specs.declared.Entry.{Entry}
 use Rattle.heap_model.specs.State.{Setting, opening}
@@ -19,7 +19,7 @@ first_configuration = record {
   };
 }
 
--- the moment after entries
+-- the configuration after entries
 abbrev pub configuration_after : Setting → Configuration → List Entry → Configuration
 configuration_after s m [] = m
 configuration_after s m (e ∷ es) = configuration_after s (after s m e) es

@@ -1,4 +1,4 @@
--- Which entries may come next, and what they change.
+-- Which entries may come next, one test for each kind of entry, and what each changes.
 use Rattle.std.specs.Prelude.{ℕ, ◌+◌, ◌*◌, ◌/◌, ◌-◌, ◌==◌, Bool, true, false, ◌&&◌, ◌||◌, not, min, nat_le, nat_lt, List, [], ◌∷◌, filter, Option, Some, None, if◌then◌else◌, is_none, is_some, option_map}
 use Rattle.std.specs.List.{find, list_any, list_all}
 use Rattle.heap_model.specs.declared.Call.{Call}

@@ -12,3 +12,7 @@ pub mod Search
 pub mod Legal
 pub mod History
 pub mod Agreement
+pub mod Alone
+pub mod Shape
+pub mod Serial
+pub mod Layout

@@ -1,4 +1,4 @@
--- The search of a call, step by step.
+-- The random search of the low-fragmentation front end, step by step. That a random block is taken is published; the order of the words is chosen here.
 use Rattle.std.specs.Prelude.{ℕ, ◌+◌, ◌*◌, ◌/◌, ◌%◌, ◌==◌, Bool, true, false, ◌&&◌, ◌||◌, not, nat_lt, List, [], ◌∷◌, filter, Option, Some, None, if◌then◌else◌, is_none, is_some, unwrap_or, option_and_then}
 use Rattle.std.specs.List.{find, list_any, list_all}
 use Rattle.rand_pcg.specs.Lcg.{started, increment_of, advance}
@@ -172,7 +172,7 @@ may_miss_hint a r c f g = has_not_begun f.stage && list_all (λ x. is_another c 
 abbrev pub may_claim : Search → ℕ → ℕ → Bool
 may_claim f head index = is_some_of f.picked index && is_some_of (last_read f) head
 
--- after a reading of a word: the block picked, or one more dry word
+-- after a reading of a word: the block picked, or one more exhausted word
 abbrev pub after_pick : SearchKey → Search → ℕ → Option ℕ → Search
 after_pick g f word (Some i) = record f { picked = Some (64 * word + i) }
 after_pick g f word None = record f { exhausted = f.exhausted + 1; ended = f.exhausted + 1 == words_in_use g.bucket }

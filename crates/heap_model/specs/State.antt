@@ -1,4 +1,5 @@
--- What the heap is at one moment.
+-- What the heap is: its page spans, the places in them, and who is where. The parts are grouped by the lock that guards them.
+-- Letters, here and in all definitions: s a setting, st a state, a an area or an address, x a span, p a place, r a run, c a caller, m and n configurations.
 use Rattle.std.specs.Prelude.{ℕ, ◌+◌, ◌*◌, ◌-◌, ◌==◌, ◌<◌, Bool, true, false, ◌&&◌, not, nat_lt, List, [], ◌∷◌, ◌++◌, length, filter, filter_map, Option, Some, None, option_map, if◌then◌else◌}
 use Rattle.std.specs.List.{list_any, find}
 use Rattle.heap_model.specs.declared.Limits.{Limits}
@@ -45,7 +46,7 @@ is_what a b = what_number a == what_number b
 abbrev pub updated : {A : Type 0} → (ℕ → A) → ℕ → A → ℕ → A
 updated f at x n = if n == at then x else f n
 
--- a span of units of one grain; bucket and slot are 0 unless it is of LFH
+-- A span of units of one size: a page range in use, in the published words. Bucket and slot are 0 unless it is of LFH.
 pub record Span : Type 0 where
   pub first : ℕ
   pub pages : ℕ
@@ -60,10 +61,12 @@ pub record Area : Type 0 where
   pub committed : ℕ → Bool
   pub spans : List Span
 
+-- a place is live, with the size that was asked, or in hand of the caller that has placed or taken it
 pub data Status : Type 0 where
   Live : (size : ℕ) → Status
   InHand : (caller : ℕ) → Status
 
+-- room for one block: its first byte, its granules of 16 bytes, and the layer that keeps it
 pub record Place : Type 0 where
   pub start : ℕ
   pub granules : ℕ
@@ -94,7 +97,7 @@ put_holder c k whats.Vs = record k { vs = c }
 put_holder c k whats.Back = record k { back = c }
 put_holder c k whats.Large = record k { large = c }
 
--- What the gate and the lock words show. The crowd are the callers that have entered or are turning back.
+-- What the gate and the lock words show. Counted are the callers that have entered or are turning back, as the gate counts them.
 pub record GateAndLocks : Type 0 where
   pub counted : List ℕ
   pub turning : List ℕ

@@ -1,4 +1,4 @@
--- Which blocks keep their address at another size, and which buckets are due.
+-- Which blocks keep their address at another size, as HeapReAlloc may let them, and which buckets are due for activation.
 use Rattle.std.specs.Prelude.{ℕ, ◌+◌, ◌*◌, ◌/◌, ◌-◌, ◌==◌, Bool, false, ◌&&◌, ◌||◌, nat_le, List, count_by, Option, Some, None, unwrap_or, option_map}
 use Rattle.std.specs.List.{find}
 use Rattle.heap_model.specs.declared.Limits.{Limits}
