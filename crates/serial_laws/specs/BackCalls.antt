@@ -1,0 +1,70 @@
+-- What one call by the back end does, from a configuration at rest.
+use Rattle.std.specs.Prelude.{◌≡◌, ℕ, ◌+◌, ◌*◌, ◌/◌, ◌<◌, Bool, true, false, ◌||◌, nat_lt, List, [], ◌∷◌, Option, Some, None}
+use Rattle.std.specs.List.{list_all}
+use Rattle.heap_model.specs.declared.Call.{Call}
+use Rattle.heap_model.specs.declared.Call.TheVariants as calls
+use Rattle.heap_model.specs.declared.Act.{Act}
+use Rattle.heap_model.specs.declared.Act.TheVariants as acts
+use Rattle.heap_model.specs.declared.Flags.{Flags}
+use Rattle.heap_model.specs.declared.Kind.TheVariants as kinds
+use Rattle.heap_model.specs.declared.Layer.TheVariants as layers
+use Rattle.heap_model.specs.declared.Reply.{Reply}
+use Rattle.heap_model.specs.declared.Reply.TheVariants as replies
+use Rattle.heap_model.specs.declared.What.TheVariants as whats
+use Rattle.heap_model.specs.Geometry.{route_of, is_paged, pages_of}
+use Rattle.heap_model.specs.State.{Setting, Area, BackPart, Span, Place, Live}
+use Rattle.heap_model.specs.Backend.{free_runs, back_place}
+use Rattle.heap_model.specs.CallState.{Configuration}
+use Rattle.heap_model.specs.Legal.{leaves_whole, with_span, is_run_of}
+use Rattle.heap_model.specs.Alone.{configuration_by}
+use Rattle.serial_laws.specs.OneCall.{IsAtRest, Completes}
+
+abbrev pub plain : Flags
+plain = record { zero = false; in_place = false }
+
+-- the span and the place of a block of n bytes at this page
+abbrev pub block_span : ℕ → ℕ → Span
+block_span first n = record { first = first; pages = pages_of n; kind = kinds.Back; bucket = 0; slot = 0 }
+
+abbrev pub block_place : ℕ → ℕ → Place
+block_place first n = record { start = 4096 * first; granules = 256 * pages_of n; layer = layers.Back; status = Live n }
+
+-- the area with one segment more reserved
+abbrev pub one_more_reserved : Area → Area
+one_more_reserved a = record { reserved = a.reserved + 1; committed = a.committed; spans = a.spans }
+
+-- Of the heap, the part of the back end alone has changed, to this one.
+pub record OnlyBack (old new : Configuration) (area : Area) (places : List Place) : Type 0 where
+  pub area_is : new.state.back.area ≡ area
+  pub places_are : new.state.back.places ≡ places
+  pub vs : new.state.vs ≡ old.state.vs
+  pub lfh : new.state.lfh ≡ old.state.lfh
+  pub large : new.state.large ≡ old.state.large
+  pub words : new.state.words ≡ old.state.words
+
+-- Some acts complete the call with this reply, leave all at rest, and change the back end to this area and these places.
+pub record Ends (s : Setting) (m : Configuration) (call : Call) (reply : Reply) (area : Area) (places : List Place) : Type 0 where
+  pub rest : List Act
+  pub completes : Completes s m call reply rest
+  pub at_rest : IsAtRest (configuration_by s m (acts.Begin call ∷ rest))
+  pub only : OnlyBack m (configuration_by s m (acts.Begin call ∷ rest)) area places
+
+-- An allocation by the back end goes to the place of its pages, in a segment that is reserved.
+abbrev pub AllocationEnds : Type 0
+AllocationEnds = (s : Setting) (m : Configuration) (n first : ℕ) → 0 < s.limits.callers → IsAtRest m → leaves_whole m.state whats.Back ≡ true →
+    is_paged (route_of n) ≡ true → back_place m.state.back.area s.limits.segments (pages_of n) ≡ Some first → first / 256 < m.state.back.area.reserved →
+    Ends s m (calls.Alloc n plain) (replies.Address (4096 * first)) (with_span m.state.back.area (block_span first n)) (block_place first n ∷ m.state.back.places)
+
+-- .. or in the next segment, where the others have no free run of so many pages.
+abbrev pub ReservingEnds : Type 0
+ReservingEnds = (s : Setting) (m : Configuration) (n first : ℕ) → 0 < s.limits.callers → IsAtRest m → leaves_whole m.state whats.Back ≡ true →
+    let more = one_more_reserved m.state.back.area in
+    is_paged (route_of n) ≡ true → back_place more s.limits.segments (pages_of n) ≡ Some first → first / 256 < more.reserved → m.state.back.area.reserved < s.limits.segments →
+    list_all (λ r. is_run_of m.state.back.area.reserved r || nat_lt r.count (pages_of n)) (free_runs more) ≡ true →
+    Ends s m (calls.Alloc n plain) (replies.Address (4096 * first)) (with_span more (block_span first n)) (block_place first n ∷ m.state.back.places)
+
+-- It is refused where there is no place, and then the back end is as it was.
+abbrev pub RefusalEnds : Type 0
+RefusalEnds = (s : Setting) (m : Configuration) (n : ℕ) → 0 < s.limits.callers → IsAtRest m → leaves_whole m.state whats.Back ≡ true →
+    is_paged (route_of n) ≡ true → back_place m.state.back.area s.limits.segments (pages_of n) ≡ None →
+    Ends s m (calls.Alloc n plain) replies.NoFit m.state.back.area m.state.back.places
