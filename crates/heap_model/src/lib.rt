@@ -1,7 +1,14 @@
-// The words of the heap: its limits, its blocks, its calls and the entries of its history.
+// The words of the heap: its limits, its blocks, its calls, the entries of its history, and what a call is answered.
+// The definitions over them stand in specs/, and what a caller can rely on, with its theorems, in proofs/.
 #![tactic(auto)]
 
-/// The layer that holds_old_block a block.
+ghost use Rattle.std.specs.Prelude.{◌↔◌, IsTrue};
+ghost use Rattle.heap_model.specs.Limits.{AreValid};
+
+use std::alloc::AllocError;
+
+/// The layer that keeps a block: the low-fragmentation front end, the variable-size layer, the back end of page spans,
+/// or the area of large blocks, as the published description of the segment heap names them.
 #[derive(Clone, Copy, Debug, PartialEq, Eq)]
 pub enum Layer {
     Lfh,
@@ -10,7 +17,7 @@ pub enum Layer {
     Large,
 }
 
-/// What the pages of a run are used for.
+/// What the pages of a run are used for. A page that is no part of a span or a free run is a header page.
 #[derive(Clone, Copy, Debug, PartialEq, Eq)]
 pub enum Kind {
     Header,
@@ -20,7 +27,7 @@ pub enum Kind {
     Back,
 }
 
-/// What a caller found busy, or takes.
+/// What a caller takes, or found in the hands of another: the gate of the heap, or the lock of a layer.
 #[derive(Clone, Copy, Debug, PartialEq, Eq)]
 pub enum What {
     Gate,
@@ -30,22 +37,42 @@ pub enum What {
     Large,
 }
 
-/// How large the heap may grow.
+/// How large the heap may grow. A segment has 256 pages of 4,096 bytes.
 #[derive(Clone, Copy, Debug, PartialEq, Eq)]
 pub struct Limits {
+    /// Segments of the back end, 1 to 16.
     pub segments: u32,
+    /// Pages of the area of large blocks, at most 4,096.
     pub large_pages: u32,
+    /// Affinity slots of the low-fragmentation front end, 1 to 16.
     pub slots: u32,
+    /// Callers that may ever be made, 1 to 64.
     pub callers: u32,
 }
 
+impl Limits {
+    /// Whether a heap can be opened with these limits.
+    pub fn valid(&self) -> bool
+        ensures { IsTrue result ↔ AreValid self.now }
+    {
+        1 <= self.segments
+            && self.segments <= 16
+            && self.large_pages <= 4096
+            && 1 <= self.slots
+            && self.slots <= 16
+            && 1 <= self.callers
+            && self.callers <= 64
+    }
+}
+
+/// How an allocation or a reallocation is asked for, as by `HEAP_ZERO_MEMORY` and `HEAP_REALLOC_IN_PLACE_ONLY`.
 #[derive(Clone, Copy, Debug, PartialEq, Eq)]
 pub struct Flags {
     pub zero: bool,
     pub in_place: bool,
 }
 
-/// A live block.
+/// A live block. The address is that of its first byte, as callers get it, and the size is the one that was asked.
 #[derive(Clone, Copy, Debug, PartialEq, Eq)]
 pub struct Block {
     pub addr: u64,
@@ -53,7 +80,88 @@ pub struct Block {
     pub layer: Layer,
 }
 
-/// A call with its arguments.
+/// What the pages of a run are marked as. The bucket and the slot are those of a subsegment of the low-fragmentation
+/// front end, the unused bytes those at the end of a back-end block, and each is 0 for other kinds.
+#[derive(Clone, Copy, Debug, PartialEq, Eq)]
+pub struct Mark {
+    pub kind: Kind,
+    pub bucket: u8,
+    pub slot: u8,
+    pub unused: u16,
+}
+
+/// A span or a free run: its first page, counted through all segments, and how many pages it has.
+#[derive(Clone, Copy, Debug, PartialEq, Eq)]
+pub struct Run {
+    pub first: u32,
+    pub pages: u32,
+    pub mark: Mark,
+}
+
+/// There was no memory for the heap's own tables or for a text.
+#[derive(Clone, Copy, Debug, PartialEq, Eq)]
+pub struct OutOfMemory;
+
+impl From<AllocError> for OutOfMemory {
+    fn from(_error: AllocError) -> OutOfMemory {
+        OutOfMemory
+    }
+}
+
+/// What another caller holds, and the word that told so: its number plus 1, or for the gate the whole gate word.
+#[derive(Clone, Copy, Debug, PartialEq, Eq)]
+pub struct Busy {
+    pub what: What,
+    pub word: u64,
+}
+
+/// Why an allocation is refused.
+#[derive(Clone, Copy, Debug, PartialEq, Eq)]
+pub enum AllocNo {
+    NoFit,
+    Busy(Busy),
+}
+
+/// Why a free, or a question for a size, is refused.
+#[derive(Clone, Copy, Debug, PartialEq, Eq)]
+pub enum FreeNo {
+    NotLive,
+    Busy(Busy),
+}
+
+/// Why a reallocation is refused. The block is then as it was.
+#[derive(Clone, Copy, Debug, PartialEq, Eq)]
+pub enum ReNo {
+    NotLive,
+    NoFit,
+    NoRoomInPlace,
+    Busy(Busy),
+}
+
+/// Why a word of a block is not read or written. `Past` tells how many words of 8 bytes the block has.
+#[derive(Clone, Copy, Debug, PartialEq, Eq)]
+pub enum WordNo {
+    NotLive,
+    Past { words: u64 },
+    Busy(Busy),
+}
+
+/// Why the heap lock is not taken. `Depth`: its owner has taken it 65,535 times.
+#[derive(Clone, Copy, Debug, PartialEq, Eq)]
+pub enum LockNo {
+    Depth,
+    Busy(Busy),
+}
+
+/// The caller does not own the heap lock, so it has nothing to give back.
+#[derive(Clone, Copy, Debug, PartialEq, Eq)]
+pub struct NotOwner;
+
+/// The caller does not own the heap lock, under which alone the blocks can be walked.
+#[derive(Clone, Copy, Debug, PartialEq, Eq)]
+pub struct NotLocked;
+
+/// A call of the Heap API with its arguments. `Stay` is a caller that passes the gate and asks for nothing.
 #[derive(Clone, Copy, Debug, PartialEq, Eq)]
 pub enum Call {
     Alloc { n: u64, flags: Flags },
