@@ -160,6 +160,7 @@ module _ (s : Setting) (back : BackPart) (vs : VsPart) (lfh large : List Place) 
       let there = found lfh vs.places back.places large first n empty in
       let above : 131072 < n = paged_above n paged in
       let left = leaves lfh vs.places back.places large first n empty in
+      let again = whole_again lfh vs.places back.places large first n empty back.area.spans whole in
       record {
         rest = acts.Enter ∷ r2;
         completes = record {
@@ -170,12 +171,12 @@ module _ (s : Setting) (back : BackPart) (vs : VsPart) (lfh large : List Place) 
               (come s m3 a3 r4 (spans s back.area first n paged fits low)
               (come s m4 a4 r5 (places_it first n)
               (come s m5 a5 r6 (rw there (gives n paged))
-              (come s m6 (acts.GiveLock whats.Back) (acts.Leave ∷ []) (whole_again lfh vs.places back.places large first n empty back.area.spans whole)
+              (come s m6 (acts.GiveLock whats.Back) (acts.Leave ∷ []) again
               (come s m7 acts.Leave [] (ap is_empty left) refl)))))));
           answered = record { own = refl; shape = (refl, refl) };
           idle = record { outside = refl; holds = refl; hands = left; demand = refl };
         };
-        at_rest = record { rest = refl; hands = left };
+        at_rest = record { rest = refl; hands = left; whole = again };
         only = record {
           area_is = refl;
           places_are = back_after lfh vs.places back.places large first n empty;
@@ -212,6 +213,7 @@ module _ (s : Setting) (back : BackPart) (vs : VsPart) (lfh large : List Place) 
       let there = found lfh vs.places back.places large first n empty in
       let above : 131072 < n = paged_above n paged in
       let left = leaves lfh vs.places back.places large first n empty in
+      let again = whole_again lfh vs.places back.places large first n empty back.area.spans whole in
       record {
         rest = acts.Enter ∷ r2;
         completes = record {
@@ -223,12 +225,12 @@ module _ (s : Setting) (back : BackPart) (vs : VsPart) (lfh large : List Place) 
               (come s m3 a3 r4 (rw only (spans s more first n paged fits low))
               (come s m4 a4 r5 (places_it first n)
               (come s m5 a5 r6 (rw there (gives n paged))
-              (come s m6 (acts.GiveLock whats.Back) (acts.Leave ∷ []) (whole_again lfh vs.places back.places large first n empty back.area.spans whole)
+              (come s m6 (acts.GiveLock whats.Back) (acts.Leave ∷ []) again
               (come s m7 acts.Leave [] (ap is_empty left) refl))))))));
           answered = record { own = refl; shape = (refl, refl) };
           idle = record { outside = refl; holds = refl; hands = left; demand = refl };
         };
-        at_rest = record { rest = refl; hands = left };
+        at_rest = record { rest = refl; hands = left; whole = again };
         only = record {
           area_is = refl;
           places_are = back_after lfh vs.places back.places large first n empty;
@@ -264,23 +266,23 @@ module _ (s : Setting) (back : BackPart) (vs : VsPart) (lfh large : List Place) 
           answered = record { own = refl; shape = refl };
           idle = record { outside = refl; holds = refl; hands = empty; demand = refl };
         };
-        at_rest = record { rest = refl; hands = empty };
+        at_rest = record { rest = refl; hands = empty; whole = whole };
         only = record { area_is = refl; places_are = refl; vs = refl; lfh = refl; large = refl; words = refl };
       }
 
 ---- .. from any configuration at rest
 
 pub allocation : AllocationEnds
-allocation s m n first room r whole paged fits low =
+allocation s m n first room r paged fits low =
     let E : Configuration → Type 0 = λ m. Ends s m (calls.Alloc n plain) (replies.Address (4096 * first)) (with_span m.state.back.area (block_span first n)) (block_place first n ∷ m.state.back.places) in
-    subst E (sym r.rest) (allocates s m.state.back m.state.vs m.state.lfh m.state.large m.state.words m.now.calls m.now.disturbed m.now.span_history n room r.hands whole paged first fits low)
+    subst E (sym r.rest) (allocates s m.state.back m.state.vs m.state.lfh m.state.large m.state.words m.now.calls m.now.disturbed m.now.span_history n room r.hands r.whole paged first fits low)
 
 pub reserving : ReservingEnds
-reserving s m n first room r whole paged fits low lower only =
+reserving s m n first room r paged fits low lower only =
     let E : Configuration → Type 0 = λ m. Ends s m (calls.Alloc n plain) (replies.Address (4096 * first)) (with_span (one_more_reserved m.state.back.area) (block_span first n)) (block_place first n ∷ m.state.back.places) in
-    subst E (sym r.rest) (allocates_next s m.state.back m.state.vs m.state.lfh m.state.large m.state.words m.now.calls m.now.disturbed m.now.span_history n room r.hands whole paged first fits low lower only)
+    subst E (sym r.rest) (allocates_next s m.state.back m.state.vs m.state.lfh m.state.large m.state.words m.now.calls m.now.disturbed m.now.span_history n room r.hands r.whole paged first fits low lower only)
 
 pub refusal : RefusalEnds
-refusal s m n room r whole paged none =
+refusal s m n room r paged none =
     let E : Configuration → Type 0 = λ m. Ends s m (calls.Alloc n plain) replies.NoFit m.state.back.area m.state.back.places in
-    subst E (sym r.rest) (refuses s m.state.back m.state.vs m.state.lfh m.state.large m.state.words m.now.calls m.now.disturbed m.now.span_history n room r.hands whole paged none)
+    subst E (sym r.rest) (refuses s m.state.back m.state.vs m.state.lfh m.state.large m.state.words m.now.calls m.now.disturbed m.now.span_history n room r.hands r.whole paged none)

@@ -84,3 +84,15 @@ serial limits seed calls replies rests h =
       idle = idle;
       ends = ap (λ (n : Configuration). n.state) (sym k.to);
     }
+
+-- one call more
+pub turns-push : (s : Setting) (m : Configuration) (cs : List Call) (rs : List Reply) (xs : List (List Act)) (c : Call) (r : Reply) (x : List Act) → CompleteInTurn s m cs rs xs → Completes s (end_of s m cs xs) c r x →
+    CompleteInTurn s m (cs ++ c ∷ []) (rs ++ r ∷ []) (xs ++ x ∷ []) × (end_of s m (cs ++ c ∷ []) (xs ++ x ∷ []) ≡ configuration_by s (end_of s m cs xs) (acts.Begin c ∷ x))
+turns-push s m [] [] [] c r x h a = ((a, tt), refl)
+turns-push s m [] [] (y ∷ xs) c r x h a = absurd h
+turns-push s m [] (q ∷ rs) xs c r x h a = absurd h
+turns-push s m (d ∷ cs) [] xs c r x h a = absurd h
+turns-push s m (d ∷ cs) (q ∷ rs) [] c r x h a = absurd h
+turns-push s m (d ∷ cs) (q ∷ rs) (y ∷ xs) c r x h a =
+    let rest = turns-push s (configuration_by s m (acts.Begin d ∷ y)) cs rs xs c r x h.1 a in
+    ((h.0, rest.0), rest.1)

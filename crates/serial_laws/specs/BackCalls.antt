@@ -10,12 +10,11 @@ use Rattle.heap_model.specs.declared.Kind.TheVariants as kinds
 use Rattle.heap_model.specs.declared.Layer.TheVariants as layers
 use Rattle.heap_model.specs.declared.Reply.{Reply}
 use Rattle.heap_model.specs.declared.Reply.TheVariants as replies
-use Rattle.heap_model.specs.declared.What.TheVariants as whats
 use Rattle.heap_model.specs.Geometry.{route_of, is_paged, pages_of}
 use Rattle.heap_model.specs.State.{Setting, Area, BackPart, Span, Place, Live}
 use Rattle.heap_model.specs.Backend.{free_runs, back_place}
 use Rattle.heap_model.specs.CallState.{Configuration}
-use Rattle.heap_model.specs.Legal.{leaves_whole, with_span, is_run_of}
+use Rattle.heap_model.specs.Legal.{with_span, is_run_of}
 use Rattle.heap_model.specs.Alone.{configuration_by}
 use Rattle.serial_laws.specs.OneCall.{IsAtRest, Completes}
 
@@ -51,13 +50,13 @@ pub record Ends (s : Setting) (m : Configuration) (call : Call) (reply : Reply) 
 
 -- An allocation by the back end goes to the place of its pages, in a segment that is reserved.
 abbrev pub AllocationEnds : Type 0
-AllocationEnds = (s : Setting) (m : Configuration) (n first : ℕ) → 0 < s.limits.callers → IsAtRest m → leaves_whole m.state whats.Back ≡ true →
+AllocationEnds = (s : Setting) (m : Configuration) (n first : ℕ) → 0 < s.limits.callers → IsAtRest m →
     is_paged (route_of n) ≡ true → back_place m.state.back.area s.limits.segments (pages_of n) ≡ Some first → first / 256 < m.state.back.area.reserved →
     Ends s m (calls.Alloc n plain) (replies.Address (4096 * first)) (with_span m.state.back.area (block_span first n)) (block_place first n ∷ m.state.back.places)
 
 -- .. or in the next segment, where the others have no free run of so many pages.
 abbrev pub ReservingEnds : Type 0
-ReservingEnds = (s : Setting) (m : Configuration) (n first : ℕ) → 0 < s.limits.callers → IsAtRest m → leaves_whole m.state whats.Back ≡ true →
+ReservingEnds = (s : Setting) (m : Configuration) (n first : ℕ) → 0 < s.limits.callers → IsAtRest m →
     let more = one_more_reserved m.state.back.area in
     is_paged (route_of n) ≡ true → back_place more s.limits.segments (pages_of n) ≡ Some first → first / 256 < more.reserved → m.state.back.area.reserved < s.limits.segments →
     list_all (λ r. is_run_of m.state.back.area.reserved r || nat_lt r.count (pages_of n)) (free_runs more) ≡ true →
@@ -65,6 +64,6 @@ ReservingEnds = (s : Setting) (m : Configuration) (n first : ℕ) → 0 < s.limi
 
 -- It is refused where there is no place, and then the back end is as it was.
 abbrev pub RefusalEnds : Type 0
-RefusalEnds = (s : Setting) (m : Configuration) (n : ℕ) → 0 < s.limits.callers → IsAtRest m → leaves_whole m.state whats.Back ≡ true →
+RefusalEnds = (s : Setting) (m : Configuration) (n : ℕ) → 0 < s.limits.callers → IsAtRest m →
     is_paged (route_of n) ≡ true → back_place m.state.back.area s.limits.segments (pages_of n) ≡ None →
     Ends s m (calls.Alloc n plain) replies.NoFit m.state.back.area m.state.back.places

@@ -8,14 +8,17 @@ use Rattle.heap_model.specs.declared.Limits.{Limits}
 use Rattle.heap_model.specs.declared.Reply.{Reply}
 use Rattle.heap_model.specs.State.{Setting, State, hands}
 use Rattle.heap_model.specs.CallState.{Configuration}
+use Rattle.heap_model.specs.declared.What.TheVariants as whats
+use Rattle.heap_model.specs.Legal.{leaves_whole}
 use Rattle.heap_model.specs.History.{first_configuration}
 use Rattle.heap_model.specs.Alone.{alone, configuration_by, may_all_come, at_rest}
 use Rattle.heap_model.specs.Serial.{IsIdle, IsAnswered, IsSerial}
 
--- Nobody is at the gate, no lock is held, nothing is demanded, and caller 0 has nothing in hand.
+-- Nobody is at the gate, no lock is held, nothing is demanded, caller 0 has nothing in hand, and each back-end span has its place.
 pub record IsAtRest (m : Configuration) : Type 0 where
   pub rest : m ≡ at_rest m.state.back m.state.vs m.state.lfh m.state.large m.state.words m.now.calls m.now.disturbed m.now.span_history
   pub hands : hands m.state 0 ≡ []
+  pub whole : leaves_whole m.state whats.Back ≡ true
 
 -- From this configuration the acts behind the Begin of this call may come, and end it with this reply.
 pub record Completes (s : Setting) (m : Configuration) (call : Call) (reply : Reply) (rest : List Act) : Type 0 where
