@@ -1,6 +1,6 @@
 -- What one call by the back end does, from a configuration at rest.
 use Rattle.std.specs.Prelude.{◌≡◌, ℕ, ◌+◌, ◌*◌, ◌/◌, ◌<◌, Bool, true, false, ◌||◌, nat_lt, List, [], ◌∷◌, Option, Some, None}
-use Rattle.std.specs.List.{list_all}
+use Rattle.std.specs.List.{find, list_all}
 use Rattle.heap_model.specs.declared.Call.{Call}
 use Rattle.heap_model.specs.declared.Call.TheVariants as calls
 use Rattle.heap_model.specs.declared.Act.{Act}
@@ -10,11 +10,12 @@ use Rattle.heap_model.specs.declared.Kind.TheVariants as kinds
 use Rattle.heap_model.specs.declared.Layer.TheVariants as layers
 use Rattle.heap_model.specs.declared.Reply.{Reply}
 use Rattle.heap_model.specs.declared.Reply.TheVariants as replies
-use Rattle.heap_model.specs.Geometry.{route_of, is_paged, pages_of}
-use Rattle.heap_model.specs.State.{Setting, Area, BackPart, Span, Place, Live}
+use Rattle.heap_model.specs.Geometry.{page_bytes, route_of, is_paged, pages_of}
+use Rattle.heap_model.specs.State.{Setting, State, Area, Span, Place, Live, has_address, is_live_at, remove_found}
 use Rattle.heap_model.specs.Backend.{free_runs, back_place}
 use Rattle.heap_model.specs.CallState.{Configuration}
-use Rattle.heap_model.specs.Legal.{with_span, is_run_of}
+use Rattle.heap_model.specs.Search.{begins_at, span_at}
+use Rattle.heap_model.specs.Legal.{with_span, is_run_of, has_place, are_used, has_live}
 use Rattle.heap_model.specs.Alone.{configuration_by}
 use Rattle.serial_laws.specs.OneCall.{IsAtRest, Completes}
 
@@ -67,3 +68,38 @@ abbrev pub RefusalEnds : Type 0
 RefusalEnds = (s : Setting) (m : Configuration) (n : ℕ) → 0 < s.limits.callers → IsAtRest m →
     is_paged (route_of n) ≡ true → back_place m.state.back.area s.limits.segments (pages_of n) ≡ None →
     Ends s m (calls.Alloc n plain) replies.NoFit m.state.back.area m.state.back.places
+
+-- a live block of the back end
+abbrev pub live_place : ℕ → ℕ → ℕ → Place
+live_place a granules size = record { start = a; granules = granules; layer = layers.Back; status = Live size }
+
+-- the area and the places without the block at a
+abbrev pub area_without : Area → ℕ → Area
+area_without x a = record { reserved = x.reserved; committed = x.committed; spans = remove_found (begins_at (a / 4096)) x.spans }
+
+abbrev pub places_without : List Place → ℕ → List Place
+places_without ps a = remove_found (is_live_at a) ps
+
+-- A free of a block of the back end takes its place and its span away, where no other block lies in this span and the others keep theirs.
+abbrev pub FreeEnds : Type 0
+FreeEnds = (s : Setting) (m : Configuration) (a granules size : ℕ) (x : Span) → 0 < s.limits.callers → IsAtRest m →
+    find (has_address a) m.state.back.places ≡ Some (live_place a granules size) →
+    span_at m.state.back.area (a / 4096) ≡ Some x → x.kind ≡ kinds.Back → has_place page_bytes (places_without m.state.back.places a) x ≡ false →
+    are_used page_bytes kinds.Back (places_without m.state.back.places a) (area_without m.state.back.area a).spans ≡ true →
+    Ends s m (calls.Free a) replies.Done (area_without m.state.back.area a) (places_without m.state.back.places a)
+
+-- A question for the size of a block of the back end finds it, and changes nothing.
+abbrev pub SizeEnds : Type 0
+SizeEnds = (s : Setting) (m : Configuration) (a granules size : ℕ) → 0 < s.limits.callers → IsAtRest m →
+    find (has_address a) m.state.back.places ≡ Some (live_place a granules size) →
+    Ends s m (calls.Size a) (replies.Number size) m.state.back.area m.state.back.places
+
+-- where no live block has the address
+abbrev pub IsNotLive : State → ℕ → Type 0
+IsNotLive st a = (has_live st.lfh a ≡ false) × (has_live st.vs.places a ≡ false) × (has_live st.back.places a ≡ false) × (has_live st.large a ≡ false)
+
+-- .. a free or a question for the size is refused, and changes nothing.
+abbrev pub NotLiveEnds : Type 0
+NotLiveEnds = (s : Setting) (m : Configuration) (a : ℕ) → 0 < s.limits.callers → IsAtRest m → IsNotLive m.state a →
+    Ends s m (calls.Free a) replies.NotLive m.state.back.area m.state.back.places
+    × Ends s m (calls.Size a) replies.NotLive m.state.back.area m.state.back.places

@@ -2,7 +2,7 @@
 #![tactic(auto)]
 
 ghost use Rattle.serial_laws.specs.OneCall.{InTurnIsSerial};
-ghost use Rattle.serial_laws.specs.BackCalls.{AllocationEnds, ReservingEnds, RefusalEnds};
+ghost use Rattle.serial_laws.specs.BackCalls.{AllocationEnds, ReservingEnds, RefusalEnds, FreeEnds, SizeEnds, NotLiveEnds};
 
 /// Calls that each complete from where the one before ended make up one legal history of caller 0 alone.
 pub fn in_turn_is_serial()
@@ -25,5 +25,23 @@ pub fn reserving_ends()
 /// An allocation for which no range fits.
 pub fn refusal_ends()
     ensures { RefusalEnds }
+{
+}
+
+/// A free of a block of the back end.
+pub fn free_ends()
+    ensures { FreeEnds }
+{
+}
+
+/// A question for the size of a block of the back end.
+pub fn size_ends()
+    ensures { SizeEnds }
+{
+}
+
+/// A free, or a question for the size, at an address where no block lives.
+pub fn not_live_ends()
+    ensures { NotLiveEnds }
 {
 }
