@@ -1,0 +1,15 @@
+pub mod Least
+pub mod BestFit
+pub mod KindLemmas
+pub mod Tiled
+pub mod Placed
+pub mod Area
+pub mod Segment
+pub mod Open
+pub mod Room
+pub mod Sides
+pub mod Freed
+pub mod Fresh
+pub mod Carved
+pub mod Resized
+pub mod Decommit

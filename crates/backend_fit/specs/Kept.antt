@@ -1,0 +1,75 @@
+-- What a back end keeps, and the area that this stands for.
+use Rattle.std.specs.Prelude.{ℕ, ◌+◌, ◌/◌, ◌==◌, Bool, ◌&&◌, not, nat_lt, List, [], ◌∷◌, Option, Some, None, if◌then◌else◌}
+use Rattle.heap_model.specs.declared.Kind.TheVariants as kinds
+use Rattle.heap_model.specs.declared.Mark.{Mark}
+use Rattle.heap_model.specs.declared.Run.{Run}
+use Rattle.heap_model.specs.State.{Area, Span, change_found, remove_found}
+use Rattle.heap_model.specs.Backend.{free_runs, is_free}
+use Rattle.heap_model.specs.Stay.{run_from}
+use Rattle.heap_model.specs.Search.{begins_at}
+use Rattle.heap_model.specs.Legal.{commit, is_back_at, with_pages}
+use Rattle.page_region.specs.Held.{Held, committed_of}
+use Rattle.page_ranges.specs.Words.{runs_of}
+use Rattle.page_ranges.specs.Spans.{span_of, taken_runs, area_in}
+
+pub record Kept : Type 0 where
+  pub region : Held
+  pub words : List ℕ
+
+-- the reserved segments, the committed pages and the spans
+abbrev pub area_of : Kept → Area
+area_of k = area_in k.region.reserved (committed_of k.region) k.words
+
+-- the runs that are spans, by place, each with its mark
+abbrev pub taken_in : List ℕ → List Run
+taken_in words = taken_runs (runs_of words)
+
+---- The effects on an area
+
+-- the area with the segment of this page reserved
+abbrev pub with_segment : Area → ℕ → Area
+with_segment a page = record { reserved = (if nat_lt (page / 256) a.reserved then a.reserved else a.reserved + 1); committed = a.committed; spans = a.spans }
+
+-- the area without the span that starts at a page, whose pages stay committed
+abbrev pub without_span : Area → ℕ → Area
+without_span a first = record { reserved = a.reserved; committed = a.committed; spans = remove_found (begins_at first) a.spans }
+
+-- the area with n pages in the back-end span that starts at a page, all of them committed
+abbrev pub with_size : Area → ℕ → ℕ → Area
+with_size a first n = record { reserved = a.reserved; committed = commit first n a.committed; spans = change_found (is_back_at first) (with_pages n) a.spans }
+
+-- the pages of a span and of the free run right behind it
+abbrev pub reach_of : Area → Option Span → ℕ
+reach_of a None = 0
+reach_of a (Some x) = x.pages + run_from (free_runs a) (x.first + x.pages)
+
+-- the area with no free page committed
+abbrev pub decommitted : Area → Area
+decommitted a = record { reserved = a.reserved; committed = λ page. a.committed page && not (is_free a page); spans = a.spans }
+
+-- a page that is committed and free
+abbrev pub is_idle : Area → ℕ → Bool
+is_idle a page = a.committed page && is_free a page
+
+---- .. and on the runs with their marks
+
+abbrev pub starts_at : ℕ → Run → Bool
+starts_at first r = r.first == first
+
+abbrev pub insert_run : Run → List Run → List Run
+insert_run x [] = x ∷ []
+insert_run x (y ∷ ys) = if nat_lt x.first y.first then x ∷ y ∷ ys else y ∷ insert_run x ys
+
+abbrev pub marked_run : ℕ → ℕ → Mark → Run
+marked_run first pages m = record { first = first; pages = pages; mark = m }
+
+abbrev pub marked_span : ℕ → ℕ → Mark → Span
+marked_span first pages m = span_of (marked_run first pages m)
+
+-- the mark of a block of the back end
+abbrev pub block_mark : ℕ → Mark
+block_mark unused = record { kind = kinds.Back; bucket = 0; slot = 0; unused = unused }
+
+-- the run with so many pages and another mark
+abbrev pub with_mark : ℕ → Mark → Run → Run
+with_mark pages m r = record { first = r.first; pages = pages; mark = m }

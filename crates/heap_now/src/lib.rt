@@ -1,0 +1,82 @@
+//! The heap as one caller uses it: each call is answered as the definitions of the heap say, and nobody waits.
+//!
+//! So far it serves the back end alone: blocks of 131,073 to 520,192 bytes. Addresses are offsets in the heap's region, in
+//! bytes; a block begins at a page of 4,096 bytes. A refused call changes nothing.
+#![tactic(auto)]
+
+mod blocks;
+
+ghost use Rattle.std.specs.Prelude.{◌≡◌, IfOk};
+ghost use Rattle.heap_model.specs.CallState.{Configuration};
+ghost use Rattle.heap_model.specs.History.{first_configuration};
+ghost use Rattle.heap_model.specs.Limits.{AreValid};
+ghost use Rattle.layout_decode.specs.Shows.{Shows};
+ghost use Rattle.heap_now.specs.Standing.{LoneHeap, Stands, IsBuilt, Serves};
+
+use crate::blocks::{allocate, free_at, size_at};
+use backend_fit::Back;
+use heap_model::{Call, Limits, OutOfMemory, Reply};
+use layout_decode::Image;
+use std::alloc::Global;
+use std::marker::Model;
+
+/// A heap with one caller.
+///
+/// Contracts see its limits, its seed and what its back end keeps, and by `Stands` a configuration of the definitions.
+#[derive(Drop)]
+pub struct Solo {
+    limits: Limits,
+    seed: u64,
+    back: Back,
+}
+
+impl Model for Solo {
+    ghost use Rattle.std.specs.Prelude.{◌≡◌};
+    ghost use Rattle.heap_now.specs.Standing.{LoneHeap};
+
+    ghost Value = { LoneHeap };
+
+    ghost view = { λ s. record { limits = s.limits; seed = s.seed; kept = s.back } };
+}
+
+impl Solo {
+    /// A heap in which nothing is reserved and nothing lives. It takes all the memory that it will ever use.
+    pub fn new(alloc: Global, limits: Limits, seed: u64) -> Result<Solo, OutOfMemory>
+        requires { AreValid limits }
+        ensures limits { IfOk result (λ s. s.limits ≡ limits) }
+        ensures seed { IfOk result (λ s. s.seed ≡ seed) }
+        ensures stands { IfOk result (λ s. Stands s first_configuration) }
+    {
+        let back = Back::new(alloc, &limits)?;
+        Ok(Solo { limits, seed, back })
+    }
+
+    /// Makes a call and answers its reply: the address or `NoFit` of an allocation, `Done` or `NotLive` of a free, the size or
+    /// `NotLive` of a question for it. The reply is that of some legal continuation of each history that the heap stands for.
+    pub fn serve(&mut self, call: &Call) -> Reply
+        requires { IsBuilt call.now }
+        ensures limits { self.new.limits ≡ self.old.limits }
+        ensures seed { self.new.seed ≡ self.old.seed }
+        ensures serves { (m : Configuration) → Stands self.old m → Serves self.old self.new m call.now result }
+    {
+        match *call {
+            Call::Alloc { n, .. } => allocate(&mut self.back, n),
+            Call::Free { addr } => free_at(&mut self.back, addr),
+            Call::Size { addr } => size_at(&self.back, addr),
+            _ => unreachable!(),
+        }
+    }
+
+    /// What the heap leaves behind: an image of its metadata, which shows its state.
+    pub fn close(self) -> Image
+        ensures { (m : Configuration) → Stands self m → Shows result self.limits m.state }
+    {
+        let Solo { limits, back, .. } = self;
+        let (region, descs) = back.into_parts();
+        Image {
+            limits,
+            region,
+            descs,
+        }
+    }
+}
