@@ -1,13 +1,12 @@
 -- The area after a change.
-use Rattle.std.proofs.Common.{◌≡◌, ℕ, ◌+◌, ◌-◌, ◌*◌, ◌/◌, ◌<◌, ◌≤◌, Bool, refl, ap, ◌∙◌, sym, arith, subst, List, length, map}
+use Rattle.std.proofs.Common.{◌≡◌, ℕ, ◌*◌, ◌/◌, ap, ◌∙◌, sym, arith, subst, List, map}
 use Rattle.heap_model.specs.declared.Mark.{Mark}
 use Rattle.heap_model.specs.declared.Run as real
 use Rattle.heap_model.specs.Geometry.{page_bytes}
-use Rattle.heap_model.specs.State.{Area, Span, change_found}
+use Rattle.heap_model.specs.State.{Area, change_found}
 use Rattle.heap_model.specs.Legal.{commit, with_span, area_resized, is_back_at, with_pages}
 use Rattle.page_region.specs.Held.{Held, IsHeld, committed_of}
-use Rattle.page_ranges.specs.Words.{runs_of}
-use Rattle.page_ranges.specs.Spans.{taken_runs, spans_in, span_of}
+use Rattle.page_ranges.specs.Spans.{taken_runs, span_of}
 use Rattle.backend_fit.specs.Kept.{Kept, area_of, taken_in, marked_run, marked_span, insert_run, with_size}
 use Rattle.backend_fit.specs.Sound.{IsSound}
 use Rattle.backend_fit.proofs.Tiled.{Tiled, tells, sound_of, spans_insert}

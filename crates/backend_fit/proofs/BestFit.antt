@@ -1,16 +1,16 @@
 -- The search for the best fit.
-use Rattle.std.proofs.Common.{◌≡◌, ℕ, zero, suc, ◌+◌, ◌-◌, ◌*◌, ◌/◌, ◌%◌, ◌<◌, ◌≤◌, Bool, true, false, ◌&&◌, not, refl, ap, ◌∙◌, sym, arith, subst, List, [], ◌∷◌, length, Option, Some, None, leb, ltb, inl, inr}
+use Rattle.std.proofs.Common.{◌≡◌, ℕ, ◌+◌, ◌*◌, ◌/◌, ◌≤◌, Bool, false, not, refl, ◌∙◌, sym, arith, List, [], ◌∷◌, length, Option, Some, None, leb, ltb, inl, inr}
 use Rattle.std.proofs.lemmas.Bool.{cases_Bool, le-ltb}
-use Rattle.std.specs.List.{AllByRecursion, find}
+use Rattle.std.specs.List.{AllByRecursion}
 use Rattle.heap_model.specs.declared.Kind.{Kind}
 use Rattle.heap_model.specs.declared.Kind.TheVariants as kinds
 use Rattle.heap_model.specs.declared.Run as real
 use Rattle.heap_model.specs.Runs.{Run, fitting, least}
 use Rattle.heap_model.specs.State.{is_kind}
 use Rattle.page_ranges.specs.Words.{runs_of, runs_from}
-use Rattle.page_ranges.specs.Ranges.{AreRuns, IsRun, IsWhole, has_page}
-use Rattle.page_ranges.proofs.Runs.{Step, step_at}
-use Rattle.page_ranges.specs.Spans.{is_of_span, is_of_free, taken_runs, span_of, spans_in, frees_in, plain, is_usable_in, IsUsed, AreApart}
+use Rattle.page_ranges.specs.Ranges.{AreRuns, IsWhole}
+use Rattle.page_ranges.proofs.Runs.{Step}
+use Rattle.page_ranges.specs.Spans.{is_of_free, frees_in, plain, IsUsed}
 use Rattle.backend_fit.specs.Best.{better, with_run, best_of}
 
 best_more : (before : Run → Run → Bool) (best : Option Run) (r : Run) (rs : List Run) → best_of before best (r ∷ rs) ≡ best_of before (Some (better before best r)) rs

@@ -1,13 +1,12 @@
 -- A span at the front of pages that may be used, and a free run behind it.
-use Rattle.std.proofs.Common.{◌≡◌, ℕ, ◌+◌, ◌-◌, ◌*◌, ◌<◌, ◌≤◌, ◌⊎◌, inl, inr, Bool, true, false, ◌&&◌, not, refl, ap, ◌∙◌, sym, arith, subst, List, [], ◌∷◌, ◌++◌, length, get_or}
+use Rattle.std.proofs.Common.{◌≡◌, ℕ, ◌+◌, ◌-◌, ◌<◌, ◌≤◌, ◌⊎◌, inl, inr, true, false, ◌&&◌, refl, ◌∙◌, sym, arith, subst, List, [], ◌∷◌, ◌++◌, length, get_or}
 use Rattle.std.specs.List.{AllByRecursion}
 use Rattle.heap_model.specs.declared.Mark.{Mark}
 use Rattle.heap_model.specs.declared.Run as real
-use Rattle.page_ranges.specs.Words.{word_in}
 use Rattle.page_ranges.specs.Ranges.{AreRuns, IsRun, IsMarked, free_mark}
 use Rattle.page_ranges.proofs.Runs.{run_kept, and_right_false}
 use Rattle.page_ranges.proofs.Blocks.{taken_append}
-use Rattle.page_ranges.specs.Spans.{is_of_span, is_of_free, taken_runs, is_usable_in, IsUsed, AreApart}
+use Rattle.page_ranges.specs.Spans.{is_of_free, taken_runs, is_usable_in, IsUsed, AreApart}
 use Rattle.backend_fit.specs.Kept.{marked_run}
 use Rattle.backend_fit.specs.Sound.{IsSpanMark}
 use Rattle.backend_fit.proofs.Tiled.{last_free, apart_append, apart_weaker, Tiled, changed}

@@ -1,17 +1,17 @@
 -- The free pages that lose their marks, run by run.
-use Rattle.std.proofs.Common.{◌≡◌, ℕ, zero, suc, ◌+◌, ◌-◌, ◌*◌, ◌/◌, ◌%◌, ◌<◌, ◌≤◌, Bool, true, false, cond, ◌&&◌, ◌⊎◌, not, inl, inr, refl, ap, ◌∙◌, sym, arith, subst, List, [], ◌∷◌, length, leb, ltb, count_by, zero-add, add-zero}
-use Rattle.std.proofs.lemmas.Bool.{cases_Bool, cases_lt, le-leb, lt-leb, lt-ltb, le-ltb, ltb-true, and_parts}
+use Rattle.std.proofs.Common.{◌≡◌, ℕ, zero, suc, ◌+◌, ◌-◌, ◌*◌, ◌/◌, ◌%◌, ◌<◌, ◌≤◌, Bool, true, false, cond, ◌&&◌, ◌⊎◌, not, inl, inr, refl, ap, ◌∙◌, sym, arith, subst, List, length, leb, ltb, count_by, zero-add, add-zero}
+use Rattle.std.proofs.lemmas.Bool.{cases_lt, le-leb, lt-leb, lt-ltb, le-ltb, ltb-true, and_parts}
 use Rattle.std.proofs.lemmas.List.Sums.{sum_by-cons}
 use Rattle.std.proofs.Math.Path.{fun_ext}
 use Rattle.std.specs.List.{AllByRecursion, list_any}
 use Rattle.heap_model.specs.declared.Run.{Run}
 use Rattle.heap_model.specs.State.{Area}
 use Rattle.heap_model.specs.Backend.{is_free, is_usable, in_span, numbers}
-use Rattle.page_region.specs.Held.{Held, committed_of, decommit}
+use Rattle.page_region.specs.Held.{committed_of, decommit}
 use Rattle.page_ranges.specs.Words.{runs_of, runs_from}
 use Rattle.page_ranges.specs.Ranges.{AreRuns}
 use Rattle.page_ranges.proofs.Runs.{Step, and_right_false}
-use Rattle.page_ranges.specs.Spans.{is_of_span, is_of_free, taken_runs, span_of, spans_in, frees_in, plain, is_usable_in, IsUsed, AreApart}
+use Rattle.page_ranges.specs.Spans.{is_of_free}
 use Rattle.backend_fit.specs.Kept.{Kept, area_of, is_idle}
 use Rattle.backend_fit.specs.Sound.{IsSound}
 use Rattle.page_ranges.proofs.FreeRuns.{IsTested, free_tested}

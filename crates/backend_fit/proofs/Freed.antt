@@ -1,15 +1,14 @@
 -- A span that goes back.
-use Rattle.std.proofs.Common.{◌≡◌, ℕ, ◌+◌, ◌-◌, ◌*◌, ◌<◌, ◌≤◌, ◌⊎◌, Bool, true, false, ◌&&◌, not, inl, inr, refl, ap, ◌∙◌, sym, arith, subst, List, [], ◌∷◌, ◌++◌, length, get_or, Some, None, Option, eqb, leb, ltb, ◌/◌, ◌%◌, IsSome, IfSome, map}
-use Rattle.std.proofs.lemmas.Bool.{cases_Bool, ne_eqb, eq-eqb, eqb-true, cases_lt, leb-true, and_parts}
+use Rattle.std.proofs.Common.{◌≡◌, ℕ, ◌+◌, ◌-◌, ◌<◌, ◌≤◌, ◌⊎◌, true, false, inl, inr, refl, ap, ◌∙◌, sym, arith, subst, List, [], ◌∷◌, ◌++◌, length, get_or, Some, None, Option, eqb, leb, ltb, ◌/◌, ◌%◌, IsSome, IfSome, map}
+use Rattle.std.proofs.lemmas.Bool.{cases_Bool, eq-eqb, eqb-true, cases_lt, leb-true, and_parts}
 use Rattle.std.specs.List.{AllByRecursion, find}
 use Rattle.heap_model.specs.declared.Run as real
 use Rattle.heap_model.specs.State.{Area, Span, remove_found}
 use Rattle.heap_model.specs.Search.{begins_at, span_at}
-use Rattle.page_region.specs.Held.{Held, IsHeld, committed_of}
 use Rattle.page_ranges.specs.Words.{runs_of, run_of_page}
-use Rattle.page_ranges.specs.Ranges.{AreRuns, IsRun, IsWhole, IsMarked, IsInSegment, has_page, free_mark}
-use Rattle.page_ranges.proofs.Runs.{runs_le, Parts, parts_of, and_right_false}
-use Rattle.page_ranges.specs.Spans.{is_of_span, is_of_free, taken_runs, span_of, spans_in, frees_in, plain, is_usable_in, IsUsed, AreApart}
+use Rattle.page_ranges.specs.Ranges.{AreRuns, IsRun, IsMarked, IsInSegment, has_page, free_mark}
+use Rattle.page_ranges.proofs.Runs.{runs_le, Parts, parts_of}
+use Rattle.page_ranges.specs.Spans.{is_of_span, taken_runs, span_of, spans_in, is_usable_in, IsUsed, AreApart}
 use Rattle.backend_fit.specs.Kept.{Kept, area_of, taken_in, starts_at, marked_span, without_span}
 use Rattle.backend_fit.specs.Sound.{IsSound, IsSpan, start_of, end_of}
 use Rattle.backend_fit.proofs.Tiled.{all_parts, last_free, apart_append, apart_parts, Tiled, tells, changed, sound_of, remove_front, spans_remove}

@@ -13,3 +13,4 @@ pub mod Fresh
 pub mod Carved
 pub mod Resized
 pub mod Decommit
+pub mod Shown

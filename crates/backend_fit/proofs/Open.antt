@@ -1,20 +1,19 @@
 -- Another segment.
-use Rattle.std.proofs.Common.{◌≡◌, ℕ, zero, suc, ◌+◌, ◌-◌, ◌*◌, ◌/◌, ◌%◌, ◌<◌, ◌≤◌, ◌⊎◌, inl, inr, Bool, true, false, ◌&&◌, not, refl, ap, ◌∙◌, sym, arith, subst, List, [], ◌∷◌, ◌++◌, length, get_or, Some, None, Option, leb, ltb, append-nil}
-use Rattle.std.proofs.lemmas.Bool.{cases_Bool, cases_lt, le-ltb, lt-ltb, lt-leb, le-leb}
-use Rattle.std.specs.List.{AllByRecursion, find}
+use Rattle.std.proofs.Common.{◌≡◌, ℕ, ◌+◌, ◌-◌, ◌*◌, ◌/◌, ◌%◌, ◌<◌, ◌≤◌, ◌⊎◌, inl, inr, Bool, true, false, not, refl, ap, ◌∙◌, sym, arith, subst, List, [], ◌∷◌, ◌++◌, length, leb, ltb}
+use Rattle.std.proofs.lemmas.Bool.{cases_lt, le-ltb, lt-ltb, lt-leb, le-leb}
+use Rattle.std.specs.List.{AllByRecursion}
 use Rattle.heap_model.specs.declared.Kind.{Kind}
 use Rattle.heap_model.specs.declared.Kind.TheVariants as kinds
 use Rattle.heap_model.specs.declared.Run as real
 use Rattle.heap_model.specs.State.{is_kind}
-use Rattle.page_region.specs.Held.{Held, IsHeld, committed_of}
 use Rattle.page_ranges.specs.Words.{runs_of, run_of_page}
-use Rattle.page_ranges.specs.Ranges.{AreRuns, IsRun, IsMarked, has_page, free_mark}
-use Rattle.page_ranges.proofs.Runs.{runs_le, Found, found, and_right_false}
+use Rattle.page_ranges.specs.Ranges.{AreRuns, IsRun, IsMarked, free_mark}
+use Rattle.page_ranges.proofs.Runs.{runs_le, found, and_right_false}
 use Rattle.page_ranges.proofs.Next.{header_has_one}
-use Rattle.page_ranges.specs.Spans.{is_of_span, is_of_free, taken_runs, span_of, spans_in, frees_in, plain, is_usable_in, IsUsed, AreApart}
+use Rattle.page_ranges.specs.Spans.{is_of_span, is_of_free, taken_runs, is_usable_in, IsUsed, AreApart}
 use Rattle.backend_fit.specs.Kept.{Kept}
-use Rattle.backend_fit.specs.Sound.{IsSound, IsFreeRun}
-use Rattle.backend_fit.proofs.Tiled.{all_append, all_parts, last_free, apart_append, apart_parts, Tiled, tells, changed, free_one}
+use Rattle.backend_fit.specs.Sound.{IsSound}
+use Rattle.backend_fit.proofs.Tiled.{all_parts, last_free, apart_append, apart_parts, Tiled, changed}
 use Rattle.page_ranges.proofs.Blocks.{taken_append}
 use Rattle.backend_fit.proofs.BestFit.{header_only}
 

@@ -1,11 +1,11 @@
 -- A span at the front of a free run.
-use Rattle.std.proofs.Common.{◌≡◌, ℕ, ◌+◌, ◌-◌, ◌*◌, ◌<◌, ◌≤◌, ◌⊎◌, inl, inr, Bool, true, false, ◌&&◌, not, refl, ap, ◌∙◌, sym, arith, subst, List, [], ◌∷◌, ◌++◌, length, get_or}
+use Rattle.std.proofs.Common.{◌≡◌, ℕ, ◌+◌, ◌-◌, ◌<◌, ◌≤◌, ◌⊎◌, inl, inr, true, false, ◌&&◌, refl, ap, ◌∙◌, sym, arith, subst, List, [], ◌∷◌, ◌++◌, length, get_or}
 use Rattle.std.specs.List.{AllByRecursion}
 use Rattle.heap_model.specs.declared.Mark.{Mark}
 use Rattle.heap_model.specs.declared.Run as real
 use Rattle.page_ranges.specs.Words.{runs_of}
-use Rattle.page_ranges.specs.Ranges.{AreRuns, IsRun, IsMarked, free_mark}
-use Rattle.page_ranges.specs.Spans.{is_of_span, is_of_free, taken_runs, is_usable_in, IsUsed, AreApart}
+use Rattle.page_ranges.specs.Ranges.{IsRun, IsMarked, free_mark}
+use Rattle.page_ranges.specs.Spans.{is_of_free, taken_runs, is_usable_in, IsUsed, AreApart}
 use Rattle.page_ranges.proofs.Runs.{runs_le, run_kept, Parts, and_right_false}
 use Rattle.backend_fit.specs.Kept.{Kept, marked_run, insert_run}
 use Rattle.backend_fit.specs.Sound.{IsSound, IsSpanMark}

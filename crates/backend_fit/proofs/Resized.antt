@@ -1,7 +1,7 @@
 -- A span that grows or shrinks.
-use Rattle.std.proofs.Common.{◌≡◌, ℕ, ◌+◌, ◌-◌, ◌*◌, ◌<◌, ◌≤◌, ◌⊎◌, inl, inr, Bool, true, false, ◌&&◌, not, refl, ap, ◌∙◌, sym, arith, subst, List, [], ◌∷◌, ◌++◌, length, option_map, unwrap_or, map, Option, Some, None, IsSome, IfSome, eqb, leb, ltb, ◌/◌, ◌%◌}
+use Rattle.std.proofs.Common.{◌≡◌, ℕ, ◌+◌, ◌-◌, ◌*◌, ◌<◌, ◌≤◌, ◌⊎◌, inl, inr, true, false, refl, ap, ◌∙◌, sym, arith, subst, List, [], ◌∷◌, ◌++◌, length, option_map, unwrap_or, map, Option, Some, None, IsSome, IfSome, eqb, leb, ltb, ◌/◌, ◌%◌}
 use Rattle.std.proofs.lemmas.Bool.{cases_Bool, ne_eqb, eq-eqb, cases_lt, ltb-true, and_parts}
-use Rattle.std.specs.List.{AllByRecursion, find}
+use Rattle.std.specs.List.{find}
 use Rattle.heap_model.specs.declared.Mark.{Mark}
 use Rattle.heap_model.specs.declared.Kind.TheVariants as kinds
 use Rattle.heap_model.specs.declared.Run as real
@@ -15,14 +15,14 @@ use Rattle.page_region.specs.Held.{Held, IsHeld, committed_of}
 use Rattle.page_ranges.specs.Words.{runs_of, run_of_page}
 use Rattle.page_ranges.specs.Ranges.{AreRuns, IsRun, IsMarked, IsInSegment, has_page, free_mark}
 use Rattle.page_ranges.proofs.Runs.{runs_le, Parts}
-use Rattle.page_ranges.specs.Spans.{is_of_span, is_of_free, taken_runs, span_of, spans_in, frees_in, plain, is_usable_in, IsUsed, AreApart, AreSettled}
+use Rattle.page_ranges.specs.Spans.{is_of_span, is_of_free, taken_runs, span_of, frees_in, is_usable_in}
 use Rattle.backend_fit.specs.Kept.{Kept, area_of, taken_in, starts_at, marked_run, marked_span, with_mark, block_mark, with_size, reach_of}
 use Rattle.backend_fit.specs.Sound.{IsSound, IsSpan, IsSpanMark, end_of}
 use Rattle.backend_fit.proofs.Tiled.{Tiled, tells, sound_of, change_front, spans_change}
 use Rattle.backend_fit.proofs.KindLemmas.{span_not_free}
 use Rattle.backend_fit.proofs.Sides.{RightSide, run_tells, run_is}
 use Rattle.backend_fit.proofs.Freed.{parts, used, apart, usable, right, bounds, some_of, span_here, shown_run}
-use Rattle.backend_fit.proofs.Carved.{IsBeside, IsCarved, carved}
+use Rattle.backend_fit.proofs.Carved.{IsBeside, carved}
 use Rattle.backend_fit.proofs.Area.{area_is}
 use Rattle.backend_fit.proofs.Segment.{frees_of, in_segment}
 

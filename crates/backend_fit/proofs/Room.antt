@@ -1,5 +1,5 @@
 -- A free run that a request takes the front of.
-use Rattle.std.proofs.Common.{◌≡◌, ℕ, ◌+◌, ◌-◌, ◌*◌, ◌/◌, ◌%◌, ◌<◌, ◌≤◌, ◌⊎◌, inl, inr, Bool, true, false, ◌&&◌, not, refl, ap, ◌∙◌, sym, arith, subst, List, ◌∷◌, length, Some, Option, map, leb, ltb}
+use Rattle.std.proofs.Common.{◌≡◌, ℕ, ◌+◌, ◌-◌, ◌*◌, ◌/◌, ◌%◌, ◌<◌, ◌≤◌, ◌⊎◌, inl, inr, true, false, refl, ap, ◌∙◌, sym, arith, subst, List, ◌∷◌, length, Some, map, leb, ltb}
 use Rattle.std.proofs.lemmas.Bool.{ltb-true, and_parts, le-ltb, lt-ltb}
 use Rattle.std.specs.List.{AllByRecursion}
 use Rattle.heap_model.specs.declared.Mark.{Mark}
@@ -7,11 +7,11 @@ use Rattle.heap_model.specs.declared.Run as real
 use Rattle.heap_model.specs.Runs.{Run, fitting, least}
 use Rattle.heap_model.specs.State.{Area}
 use Rattle.heap_model.specs.Backend.{free_runs, is_better}
-use Rattle.page_region.specs.Held.{Held, IsHeld}
+use Rattle.page_region.specs.Held.{Held}
 use Rattle.page_ranges.specs.Words.{runs_of}
 use Rattle.page_ranges.specs.Ranges.{IsMarked, IsInSegment, has_page, free_mark}
 use Rattle.page_ranges.proofs.Runs.{Parts, parts_of, runs_le}
-use Rattle.page_ranges.specs.Spans.{is_of_span, is_of_free, taken_runs, span_of, spans_in, frees_in, plain, is_usable_in, IsUsed, AreApart, AreSettled}
+use Rattle.page_ranges.specs.Spans.{taken_runs, span_of, frees_in, plain, is_usable_in, IsUsed}
 use Rattle.backend_fit.specs.Kept.{Kept, area_of, taken_in, with_segment}
 use Rattle.backend_fit.specs.Sound.{IsSound, IsFreeRun, IsSpanMark}
 use Rattle.backend_fit.proofs.Least.{fitting_all, least_all}

@@ -1,15 +1,14 @@
 -- Pages that may be used lie in one open segment.
-use Rattle.std.proofs.Common.{◌≡◌, ℕ, zero, suc, ◌+◌, ◌-◌, ◌*◌, ◌/◌, ◌%◌, ◌<◌, ◌≤◌, ◌⊎◌, inl, inr, Bool, true, false, ◌&&◌, not, refl, ap, ◌∙◌, sym, arith, subst, List, ◌∷◌, ◌++◌, length, get_or, eqb, leb, ltb, ne_eqb}
+use Rattle.std.proofs.Common.{◌≡◌, ℕ, zero, suc, ◌+◌, ◌-◌, ◌*◌, ◌/◌, ◌%◌, ◌<◌, ◌≤◌, ◌⊎◌, inl, inr, true, false, not, refl, ap, ◌∙◌, sym, arith, subst, List, ◌∷◌, length, get_or, eqb, leb, ltb, ne_eqb}
 use Rattle.std.proofs.lemmas.Bool.{cases_lt, le-ltb, lt-ltb, le-leb, leb-true, ltb-true, and_parts, and_from}
 use Rattle.std.specs.List.{AllByRecursion}
 use Rattle.heap_model.specs.declared.Kind.TheVariants as kinds
 use Rattle.heap_model.specs.declared.Run as real
-use Rattle.heap_model.specs.Runs.{Run}
 use Rattle.heap_model.specs.State.{is_kind}
 use Rattle.heap_model.specs.Backend.{free_runs}
 use Rattle.page_region.specs.Held.{committed_of}
-use Rattle.page_ranges.specs.Words.{runs_of, run_of_page, header_run, word_in}
-use Rattle.page_ranges.specs.Ranges.{IsMarkedRun, IsRun, IsInSegment, is_open}
+use Rattle.page_ranges.specs.Words.{runs_of, run_of_page, word_in}
+use Rattle.page_ranges.specs.Ranges.{IsInSegment, is_open}
 use Rattle.page_ranges.specs.Spans.{frees_in, is_usable_in, IsUsed, AreSettled}
 use Rattle.page_ranges.proofs.Runs.{Found, found}
 use Rattle.page_ranges.proofs.FreeRuns.{frees_are}

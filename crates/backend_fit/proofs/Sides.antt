@@ -1,13 +1,12 @@
 -- What lies beside a span: the runs that stay, and the pages that join it when it goes.
-use Rattle.std.proofs.Common.{◌≡◌, ℕ, ◌+◌, ◌-◌, ◌*◌, ◌<◌, ◌≤◌, Bool, true, false, ◌&&◌, not, inl, inr, refl, ap, ◌∙◌, sym, arith, subst, List, [], ◌∷◌, ◌++◌, length, Some, Option, eqb, append-nil}
+use Rattle.std.proofs.Common.{◌≡◌, ℕ, ◌+◌, ◌-◌, ◌<◌, ◌≤◌, Bool, true, false, ◌&&◌, inl, inr, refl, ap, ◌∙◌, sym, arith, subst, List, [], ◌∷◌, ◌++◌, length, Some, eqb, append-nil}
 use Rattle.std.proofs.lemmas.Bool.{cases_Bool, ne_eqb, eq-eqb}
 use Rattle.std.specs.List.{AllByRecursion, find}
-use Rattle.heap_model.specs.declared.Kind.{Kind}
 use Rattle.heap_model.specs.declared.Run.{Run}
 use Rattle.page_ranges.specs.Words.{runs_of, run_of_page}
 use Rattle.page_ranges.specs.Ranges.{AreRuns, IsRun, IsWhole, has_page}
-use Rattle.page_ranges.proofs.Runs.{runs_le, Found, found, finds_run, page_tells, and_right_false}
-use Rattle.page_ranges.specs.Spans.{is_of_span, is_of_free, taken_runs, span_of, spans_in, frees_in, plain, is_usable_in, IsUsed, AreApart}
+use Rattle.page_ranges.proofs.Runs.{runs_le, Found, found, finds_run, page_tells}
+use Rattle.page_ranges.specs.Spans.{is_of_free, taken_runs, is_usable_in, IsUsed, AreApart}
 use Rattle.backend_fit.specs.Sound.{start_of, end_of}
 use Rattle.backend_fit.proofs.Tiled.{all_parts, last_free, apart_parts}
 use Rattle.page_ranges.proofs.Blocks.{taken_append}

@@ -1,20 +1,18 @@
 -- Runs that tile the pages, in parts.
-use Rattle.std.proofs.Common.{◌≡◌, ℕ, zero, suc, ◌+◌, ◌-◌, ◌*◌, ◌/◌, ◌%◌, ◌<◌, ◌≤◌, ◌⊎◌, inl, inr, Bool, true, false, ◌&&◌, not, refl, ap, ◌∙◌, sym, arith, subst, List, [], ◌∷◌, ◌++◌, length, get_or, map, Option, Some, None, eqb, leb, ltb}
+use Rattle.std.proofs.Common.{◌≡◌, ℕ, ◌+◌, ◌*◌, ◌<◌, ◌≤◌, ◌⊎◌, inl, inr, Bool, true, false, refl, ap, ◌∙◌, sym, arith, subst, List, [], ◌∷◌, ◌++◌, length, get_or, map, Some, eqb, ltb}
 use Rattle.std.proofs.lemmas.Bool.{cases_Bool, le-ltb, lt-ltb, ne_eqb}
 use Rattle.std.specs.List.{AllByRecursion, find}
-use Rattle.heap_model.specs.declared.Kind.{Kind}
 use Rattle.heap_model.specs.declared.Kind.TheVariants as kinds
 use Rattle.heap_model.specs.declared.Mark.{Mark}
 use Rattle.heap_model.specs.declared.Run as real
-use Rattle.heap_model.specs.Runs.{Run}
-use Rattle.heap_model.specs.State.{Span, is_kind, insert_span, remove_found, change_found}
+use Rattle.heap_model.specs.State.{is_kind, insert_span, remove_found, change_found}
 use Rattle.heap_model.specs.Search.{begins_at}
 use Rattle.heap_model.specs.Legal.{is_back_at, with_pages}
-use Rattle.page_region.specs.Held.{Held, IsHeld}
-use Rattle.page_ranges.specs.Words.{runs_of, runs_from, run_of_page}
-use Rattle.page_ranges.specs.Ranges.{AreRuns, IsRun, IsWhole, has_page}
+use Rattle.page_region.specs.Held.{IsHeld}
+use Rattle.page_ranges.specs.Words.{runs_of, run_of_page}
+use Rattle.page_ranges.specs.Ranges.{AreRuns, IsRun, IsWhole}
 use Rattle.page_ranges.proofs.Runs.{runs_only, runs_le, runs_kept, runs_append, finds_run, page_tells}
-use Rattle.page_ranges.specs.Spans.{is_of_span, is_of_free, taken_runs, span_of, spans_in, frees_in, plain, is_usable_in, IsUsed, AreApart}
+use Rattle.page_ranges.specs.Spans.{is_of_span, is_of_free, taken_runs, span_of, frees_in, IsUsed, AreApart}
 use Rattle.backend_fit.specs.Kept.{Kept, starts_at, insert_run, with_mark}
 use Rattle.backend_fit.specs.Sound.{IsSound, IsFreeRun}
 

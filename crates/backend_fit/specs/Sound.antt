@@ -1,11 +1,9 @@
 -- What holds of a back end between its calls.
-use Rattle.std.specs.Prelude.{ℕ, ◌+◌, ◌-◌, ◌==◌, if◌then◌else◌, ◌*◌, ◌/◌, ◌%◌, ◌<◌, ◌≡◌, Bool, true, false, Option, Some, ◌&&◌, not, nat_le, nat_lt, List, [], ◌∷◌, length}
+use Rattle.std.specs.Prelude.{ℕ, ◌+◌, ◌-◌, ◌==◌, if◌then◌else◌, ◌*◌, ◌≡◌, true, false, Some, List, length}
 use Rattle.std.specs.List.{AllByRecursion, find}
-use Rattle.heap_model.specs.declared.Kind.TheVariants as kinds
 use Rattle.heap_model.specs.declared.Mark.{Mark}
 use Rattle.heap_model.specs.declared.Run.{Run}
-use Rattle.heap_model.specs.State.{is_kind}
-use Rattle.page_region.specs.Held.{Held, IsHeld}
+use Rattle.page_region.specs.Held.{IsHeld}
 use Rattle.page_ranges.specs.Words.{runs_of, run_of_page}
 use Rattle.page_ranges.specs.Ranges.{IsWhole, IsMark, has_page}
 use Rattle.page_ranges.specs.Spans.{is_of_free, is_of_span, IsUsed, AreApart}

@@ -434,10 +434,9 @@ mod tests {
 
     /// Gives back the span that starts at a page, where one does.
     fn give_span(back: &mut Back, first: u32) -> Option<u32> {
-        match back.run_at(first) {
-            Some(run) if run.first == first && run.mark.kind == Kind::Back => Some(back.give(
-                first,
-            )),
+        let run = back.run_at(first)?;
+        match run.mark.kind {
+            Kind::Back if run.first == first => Some(back.give(first)),
             _ => None,
         }
     }
@@ -448,7 +447,7 @@ mod tests {
         assert_eq!(rt; back.take(33, BACK), Some(2));
         assert_eq!(rt; back.take(33, BACK), Some(35));
         assert!(rt; !back.resize(2, 34, 0));
-        assert_eq!(rt; give_span(&mut back, 35), Some(33));
+        assert_eq!(rt; back.give(35), 33);
         assert!(rt; back.resize(2, 127, 0));
         assert!(rt; back.fits(127));
         assert!(rt; !back.fits(128));
@@ -468,7 +467,7 @@ mod tests {
         assert_eq!(rt; back.take(33, BACK), Some(35));
         assert_eq!(rt; back.take(33, BACK), Some(68));
         assert_eq!(rt; back.take(33, BACK), Some(101));
-        assert_eq!(rt; give_span(&mut back, 2), Some(33));
+        assert_eq!(rt; back.give(2), 33);
         assert_eq!(rt; back.decommit_free(), 33);
         assert_eq!(rt; give_span(&mut back, 68), Some(33));
         assert_eq!(rt; back.take(33, BACK), Some(68));

@@ -1,4 +1,4 @@
-use Rattle.std.proofs.Common.{◌≡◌, ℕ, ◌+◌, ◌*◌, ◌<◌, ◌≤◌, ◌∙◌, ap, sym, arith, length, List, option_map}
+use Rattle.std.proofs.Common.{◌<◌, ◌∙◌, ap, sym, arith, length, List, option_map}
 use Rattle.heap_model.specs.Runs.{Run, fitting, least}
 use Rattle.heap_model.specs.Backend.{is_better}
 use Rattle.page_ranges.specs.Spans.{plain}

@@ -1,4 +1,4 @@
-use Rattle.std.proofs.Common.{◌≡◌, ◌<◌, ◌+◌, ◌-◌, ◌≤◌, length, sym, ◌∙◌, arith}
+use Rattle.std.proofs.Common.{arith}
 use Rattle.backend_fit.specs.Kept.{Kept}
 use Rattle.backend_fit.proofs.Freed.{span_inside, span_some, span_behind, bounds, freed, freed_sound, freed_area, freed_taken, joined_in}
 use Rattle.backend_fit.proofs.free_run.Goals as goal

@@ -1,4 +1,4 @@
-use Rattle.std.proofs.Common.{◌≡◌, ℕ, ◌+◌, ◌-◌, ◌<◌, ◌≤◌, arith, length}
+use Rattle.std.proofs.Common.{arith}
 use Rattle.backend_fit.specs.Kept.{Kept}
 use Rattle.backend_fit.proofs.Room.{opened_sound, opened_area, opened_free, opened_taken}
 use Rattle.backend_fit.proofs.Segment.{not_open}

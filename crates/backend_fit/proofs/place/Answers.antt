@@ -1,7 +1,7 @@
-use Rattle.std.proofs.Common.{◌≡◌, ℕ, ◌+◌, ◌-◌, ◌<◌, ◌≤◌, inl, inr, arith, length}
+use Rattle.std.proofs.Common.{inl, inr, arith}
 use Rattle.backend_fit.specs.Kept.{Kept}
 use Rattle.backend_fit.proofs.Placed.{IsPlaced}
-use Rattle.backend_fit.proofs.Room.{room_inside, room_reserved, room_some, room_in, placed}
+use Rattle.backend_fit.proofs.Room.{room_reserved, room_some, room_in, placed}
 use Rattle.backend_fit.proofs.Segment.{rest_in}
 use Rattle.backend_fit.proofs.Area.{placed_sound, placed_area, placed_taken}
 use Rattle.backend_fit.proofs.place.Goals as goal

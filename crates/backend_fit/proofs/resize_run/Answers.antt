@@ -1,6 +1,6 @@
-use Rattle.std.proofs.Common.{◌≡◌, ◌<◌, ◌+◌, ◌-◌, ◌*◌, ◌≤◌, length, inl, inr, arith, sym, ◌∙◌, refl, subst}
+use Rattle.std.proofs.Common.{◌≡◌, ◌+◌, ◌-◌, inl, inr, arith, refl, subst}
 use Rattle.backend_fit.specs.Kept.{Kept, block_mark}
-use Rattle.backend_fit.proofs.Resized.{end_inside, end_reserved, IsResized, resized, resized_sound, resized_area, resized_taken, span_in, found_run, same_span, block_mark_is}
+use Rattle.backend_fit.proofs.Resized.{end_reserved, IsResized, resized, resized_sound, resized_area, resized_taken, span_in, found_run, same_span, block_mark_is}
 use Rattle.backend_fit.proofs.Freed.{parts}
 use Rattle.backend_fit.proofs.Segment.{rest_in}
 use Rattle.page_ranges.specs.Ranges.{IsInSegment}

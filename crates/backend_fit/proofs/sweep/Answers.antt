@@ -1,11 +1,8 @@
-use Rattle.std.proofs.Common.{◌≡◌, ℕ, ◌+◌, ◌-◌, ◌*◌, ◌<◌, ◌≤◌, length, arith, sym, ap, refl, ◌∙◌, subst, true, false, Bool, count_by}
-use Rattle.heap_model.specs.Backend.{numbers}
-use Rattle.page_region.specs.Held.{committed_of, decommit}
+use Rattle.std.proofs.Common.{◌+◌, ◌<◌, length, arith, sym, refl, ◌∙◌}
+use Rattle.page_region.specs.Held.{committed_of}
 use Rattle.page_ranges.proofs.Runs.{Step, step_at}
-use Rattle.page_ranges.specs.Spans.{is_of_free}
 use Rattle.backend_fit.specs.Kept.{Kept, area_of}
-use Rattle.backend_fit.proofs.Area.{area_is}
-use Rattle.backend_fit.proofs.Decommit.{IsSweep, sweep_begins, free_fits, over_other, over_free, count_small, swept_marks, swept_count}
+use Rattle.backend_fit.proofs.Decommit.{IsSweep, sweep_begins, free_fits, over_other, over_free, count_small, swept_count}
 use Rattle.backend_fit.proofs.sweep.Goals as goal
 use Rattle.backend_fit.proofs.sweep.Goals.{then-is_free, else-is_free, After-run_at-run}
 

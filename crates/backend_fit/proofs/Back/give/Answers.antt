@@ -1,4 +1,3 @@
-use Rattle.std.proofs.Common.{◌≡◌, ap}
 use Rattle.backend_fit.specs.Kept.{Kept, area_of}
 use Rattle.backend_fit.proofs.Freed.{shown_inside, shown_run, shown_area, shown_taken}
 use Rattle.backend_fit.proofs.Back.give.Goals as goal

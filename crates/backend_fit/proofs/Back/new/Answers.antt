@@ -1,6 +1,3 @@
-use Rattle.std.proofs.Common.{◌≡◌, refl}
-use Rattle.heap_model.specs.State.{Area}
-use Rattle.backend_fit.specs.Kept.{Kept, area_of}
 use Rattle.backend_fit.proofs.Fresh.{fresh_sound, fresh_area, fresh_taken}
 use Rattle.backend_fit.proofs.Back.new.Goals as goal
 

@@ -1,8 +1,8 @@
-use Rattle.std.proofs.Common.{◌≡◌, ◌<◌, ◌+◌, ◌-◌, ◌*◌, ◌≤◌, length, true, false, leb, arith, sym, ap, ◌∙◌}
+use Rattle.std.proofs.Common.{◌-◌, arith, sym}
 use Rattle.std.proofs.lemmas.Bool.{lt-leb, le-leb}
 use Rattle.backend_fit.specs.Kept.{Kept, area_of, block_mark}
 use Rattle.backend_fit.specs.Sound.{IsSpan}
-use Rattle.backend_fit.proofs.Freed.{shown_inside, shown_run, span_inside, bounds}
+use Rattle.backend_fit.proofs.Freed.{shown_inside, shown_run, span_inside}
 use Rattle.backend_fit.proofs.Resized.{shown_reach, shown_kind, shown_size, shown_change}
 use Rattle.backend_fit.proofs.Back.resize.Goals as goal
 use Rattle.backend_fit.proofs.Back.resize.Goals.{After-run_at-run}

@@ -1,0 +1,11 @@
+use Rattle.std.proofs.Common.{◌≡◌, ◌∙◌, List, ℕ, rules}
+use Rattle.std.specs.List.{before_first, after_first}
+use Rattle.script_text.specs.Lines.{is_blank, fields_of, field}
+use Rattle.script_text.proofs.FieldLemmas.{first_piece, start}
+use Rattle.script_text.proofs.lines.next_field.Goals as goal
+
+pub returns-clause-first : goal.returns-clause-first
+returns-clause-first c = rw (c.cut_piece.ensures.front, c.without_blanks.ensures) (first_piece is_blank c.args.line.now).0
+
+pub returns-clause-others : goal.returns-clause-others
+returns-clause-others c = rw (c.cut_piece.ensures.behind, c.without_blanks.ensures) (first_piece is_blank c.args.line.now).1

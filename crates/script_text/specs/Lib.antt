@@ -1,0 +1,15 @@
+pub mod Causes
+pub mod Lines
+pub mod Words
+pub mod Digits
+pub mod Filled
+pub mod Names
+pub mod Pieces
+pub mod Order
+pub mod Counted
+pub mod ThreadLines
+pub mod Rounds
+pub mod Reading
+pub mod Scripts
+pub mod Unbuilt
+pub mod Seen

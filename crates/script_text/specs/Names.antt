@@ -1,0 +1,49 @@
+-- The names of a text, and their numbers.
+use Rattle.std.specs.Prelude.{◌≡◌, ℕ, ◌+◌, Bool, ◌&&◌, List, [], ◌∷◌, ◌++◌, is_some, Option, Some, None, if◌then◌else◌}
+use Rattle.std.specs.List.{list_any}
+use Rattle.std.specs.Str.{bytes_eq}
+use Rattle.std.specs.Ordering.{nat_cmp}
+use Rattle.std.specs.Cmp.Lexicographic.{slice_cmp}
+use Rattle.std.specs.BTreeMap.{BTreeMap, get_by, btree_map_len}
+use Rattle.std.specs.Borrow.{Bor}
+use Rattle.script_text.specs.Lines.{field, fields_of}
+use Rattle.script_text.specs.Words.{block_word, is_name}
+
+abbrev pub is_among : List (List ℕ) → List ℕ → Bool
+is_among names x = list_any (bytes_eq x) names
+
+-- how many different names there are
+abbrev pub different : List (List ℕ) → ℕ
+different [] = 0
+different (x ∷ xs) = if is_among xs x then different xs else different xs + 1
+
+-- what stands before the first place of a name
+abbrev pub before_name : List ℕ → List (List ℕ) → List (List ℕ)
+before_name x [] = []
+before_name x (y ∷ ys) = if bytes_eq x y then [] else y ∷ before_name x ys
+
+-- the number of a name: how many different names stand before its first place
+abbrev pub number_of_name : List (List ℕ) → List ℕ → ℕ
+number_of_name names x = different (before_name x names)
+
+-- the name on a line: its first field behind a word that takes one, if that is a name
+abbrev pub name_by : (word first : List ℕ) → List (List ℕ)
+name_by word first = if is_some (block_word word) && is_name first then first ∷ [] else []
+
+abbrev pub name_on : List (List ℕ) → List (List ℕ)
+name_on fields = name_by (field 0 fields) (field 1 fields)
+
+-- the names of lines, in their order
+abbrev pub names_in : List (List ℕ) → List (List ℕ)
+names_in [] = []
+names_in (line ∷ lines) = name_on (fields_of line) ++ names_in lines
+
+-- the number of the name on a line
+abbrev pub number_on : List (List ℕ) → List (List ℕ) → ℕ
+number_on names [] = 0
+number_on names (x ∷ xs) = number_of_name names x
+
+-- a map gives the names their numbers
+pub record AreNumbered (numbers : BTreeMap (Bor (List ℕ)) ℕ) (names : List (List ℕ)) : Type 0 where
+  pub found : (x : List ℕ) → get_by (λ k. slice_cmp nat_cmp x k.now) numbers ≡ (if is_among names x then Some (number_of_name names x) else None)
+  pub count : btree_map_len numbers ≡ different names

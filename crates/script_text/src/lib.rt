@@ -1,0 +1,20 @@
+// A script: its text read into rounds, threads and commands, or refused with the first faulty line.
+#![tactic(auto)]
+
+mod commands;
+mod counts;
+mod faults;
+mod lines;
+mod numbering;
+mod reading;
+mod rounds;
+mod saying;
+mod scripts;
+#[cfg(test)]
+mod tests;
+mod unbuilt;
+mod words;
+
+pub use commands::{Command, CommandLine, Line, NumberedLine, Target};
+pub use faults::{Cause, ScriptFault, ScriptNo};
+pub use scripts::{Script, read_script};
