@@ -13,7 +13,7 @@ use Rattle.page_ranges.specs.Spans.{is_of_span, span_of, taken_runs, is_usable_i
 use Rattle.heap_now.specs.Blocks.{is_block_at}
 
 -- a run of the back end is a span
-back_is_span : (k : Kind) → is_of_span k ≡ false → is_kind k kinds.Back ≡ false
+pub back_is_span : (k : Kind) → is_of_span k ≡ false → is_kind k kinds.Back ≡ false
 back_is_span kinds.Header e = refl
 back_is_span kinds.Free e = refl
 back_is_span kinds.Vs e = refl

@@ -6,3 +6,4 @@ pub mod NextSegment
 pub mod StandAlloc
 pub mod Shown
 pub mod Calls
+pub mod Lives

@@ -6,7 +6,10 @@
 
 mod blocks;
 
-ghost use Rattle.std.specs.Prelude.{◌≡◌, IfOk};
+ghost use Rattle.std.specs.Prelude.{◌≡◌, ◌*◌, IfOk, length};
+ghost use Rattle.heap_model.specs.State.{live};
+ghost use Rattle.page_ranges.specs.Ranges.{IsWhole};
+ghost use Rattle.layout_decode.specs.Decode.{decode};
 ghost use Rattle.heap_model.specs.CallState.{Configuration};
 ghost use Rattle.heap_model.specs.History.{first_configuration};
 ghost use Rattle.heap_model.specs.Limits.{AreValid};
@@ -69,7 +72,11 @@ impl Solo {
 
     /// What the heap leaves behind: an image of its metadata, which shows its state.
     pub fn close(self) -> Image
-        ensures { (m : Configuration) → Stands self m → Shows result self.limits m.state }
+        ensures shows { (m : Configuration) → Stands self m → Shows result self.limits m.state }
+        // the blocks that it decodes to are the live ones
+        ensures blocks { (m : Configuration) → Stands self m → decode result.descs ≡ live m.state }
+        ensures whole { IsWhole result.descs }
+        ensures pages { length result.descs ≡ 256 * result.region.segments }
     {
         let Solo { limits, back, .. } = self;
         let (region, descs) = back.into_parts();
