@@ -18,3 +18,4 @@ mod words;
 pub use commands::{Command, CommandLine, Line, NumberedLine, Target};
 pub use faults::{Cause, ScriptFault, ScriptNo};
 pub use scripts::{Script, read_script};
+pub use words::number;

@@ -2,10 +2,10 @@
 ghost use Rattle.std.specs.Prelude.{◌≡◌, ◌<◌, ◌≤◌, length, Ok, Err, Some, None, IfOk, IfErr, MatchResult, List};
 ghost use Rattle.script_text.specs.Reading.{reading_of, IsRefusedAs};
 ghost use Rattle.script_text.specs.ThreadLines.{ThreadLines};
-ghost use Rattle.script_text.specs.Scripts.{round_at, command_at, second_thread, first_second, most_threads};
+ghost use Rattle.script_text.specs.Scripts.{round_at, thread_at, command_at, second_thread, first_second, most_threads};
 ghost use Rattle.script_text.specs.Unbuilt.{first_unbuilt};
 
-use crate::commands::Command;
+use crate::commands::{Command, CommandLine};
 use crate::faults::{Cause, ScriptFault, ScriptNo};
 use crate::reading::read_lines;
 use crate::rounds::{Round, rounds_in};
@@ -94,6 +94,17 @@ impl Script {
         ensures { result ≡ length (round_at self.now round) }
     {
         threads_of(&self.rounds[round as usize])
+    }
+
+    /// The commands of a thread, each with its line.
+    pub fn commands(&self, round: u32, thread: u32) -> &[CommandLine]
+        requires round { round < length self.now.rounds }
+        requires thread { thread < length (round_at self.now round) }
+        ensures { result.now ≡ (thread_at self.now round thread).commands }
+    {
+        let round = &self.rounds[round as usize];
+        let thread = &round.threads[thread as usize];
+        thread.commands.as_slice()
     }
 
     /// Command number `k` of a thread, if it has so many.

@@ -136,7 +136,7 @@ fn of_name(byte: u8) -> bool
 }
 
 /// A number: 1 to 20 decimal digits, with a value of 64 bits.
-fn number(field: &[u8]) -> Result<u64, Cause>
+pub fn number(field: &[u8]) -> Result<u64, Cause>
     ensures { result ≡ number_field field.now }
 {
     if field.is_empty() || field.len() > 20 {

@@ -1,0 +1,179 @@
+// The commands of a script, run one after another on a heap of one caller.
+ghost use Rattle.std.specs.Prelude.{◌≡◌, ◌<◌, ◌≤◌, [], ◌∷◌, ◌++◌, IfOk, length, map, List, ℕ};
+ghost use Rattle.std.specs.List.{AllByRecursion};
+ghost use Rattle.heap_model.specs.CallState.{Configuration};
+ghost use Rattle.heap_model.specs.declared.Reply.{Reply};
+ghost use Rattle.heap_now.specs.Standing.{Stands, IsBuilt};
+ghost use Rattle.script_text.specs.Scripts.{commands_of, round_at, command_of};
+ghost use Rattle.command_run.specs.Values.{value_at};
+ghost use Rattle.command_run.specs.Commands.{unassigned, address_of, call_of, assigned, assigned_placed, assigned_moved, in_rounds, round_commands, thread_commands};
+ghost use Rattle.command_run.specs.Running.{IsServed, AreServed, Runs, RoundRuns, Fit};
+
+use crate::values::Values;
+use heap_model::{Call, Flags, OutOfMemory, Reply};
+use heap_now::Solo;
+use report_text::Answers;
+use script_text::{Command, CommandLine, Script, Target};
+use std::alloc::{AllocError, Global};
+
+/// The replies to the commands of a script, round after round and thread after thread.
+pub fn run_rounds(alloc: Global, heap: &mut Solo, script: &Script) -> Result<Answers, OutOfMemory>
+    requires { AreServed script.now.rounds }
+    ensures fit { IfOk result (λ answers. Fit (commands_of script.now) answers) }
+    ensures runs { IfOk result (λ answers. (m : Configuration) → Stands heap.old m → (later : List ℕ)
+        × Runs heap.old heap.new unassigned (value_at later) (in_rounds (commands_of script.now)) (in_rounds answers) m) }
+{
+    let mut answers = Answers::new(alloc);
+    let mut values = Values::new(alloc);
+    for round in 0..script.rounds() {
+        answers.add_round()?;
+        run_threads(alloc, heap, &mut values, script, round, &mut answers)?;
+    }
+    Ok(answers)
+}
+
+/// The replies to the commands of a round, put into the last round of the answers, which has none yet.
+fn run_threads(
+    alloc: Global,
+    heap: &mut Solo,
+    values: &mut Values,
+    script: &Script,
+    round: u32,
+    answers: &mut Answers,
+) -> Result<(), OutOfMemory>
+    requires round { round < length script.now.rounds }
+    requires served { AreServed script.now.rounds }
+    requires empty { (front : List (List (List Reply))) × (answers.old ≡ front ++ [] ∷ []) }
+    ensures { IfOk result (λ _. (front : List (List (List Reply))) → answers.old ≡ front ++ [] ∷ []
+        → RoundRuns front answers.new heap.old heap.new (value_at values.old) (value_at values.new) (round_commands (round_at script.now round))) }
+{
+    for thread in 0..script.threads(round) {
+        let replies = run_thread(alloc, heap, values, script.commands(round, thread))?;
+        answers.add_thread(replies)?;
+    }
+    Ok(())
+}
+
+/// The replies to the commands of a thread.
+fn run_thread(
+    alloc: Global,
+    heap: &mut Solo,
+    values: &mut Values,
+    commands: &[CommandLine],
+) -> Result<Vec<Reply>, AllocError>
+    requires { AllByRecursion (λ c. IsServed c.command) commands.now }
+    ensures each { IfOk result (λ replies. length replies.items ≡ length (thread_commands commands.now)) }
+    ensures runs { IfOk result (λ replies. (m : Configuration) → Stands heap.old m
+        → Runs heap.old heap.new (value_at values.old) (value_at values.new) (thread_commands commands.now) replies.items m) }
+{
+    let mut replies = Vec::new(alloc);
+    for line in commands {
+        let reply = run_command(heap, values, line.command)?;
+        replies.push(reply)?;
+    }
+    Ok(replies)
+}
+
+/// The reply to a command, whose name then has the value that it assigns.
+fn run_command(heap: &mut Solo, values: &mut Values, command: Command) -> Result<Reply, AllocError>
+    requires { IsServed command }
+    ensures { IfOk result (λ reply. (m : Configuration) → Stands heap.old m
+        → Runs heap.old heap.new (value_at values.old) (value_at values.new) (command ∷ []) (reply ∷ []) m) }
+{
+    let call = call_for(values, command);
+    let reply = heap.serve(&call);
+    note(values, command, reply)?;
+    Ok(reply)
+}
+
+fn address_for(values: &Values, target: Target) -> u64
+    ensures { result ≡ address_of (value_at values.now) target }
+{
+    match target {
+        Target::Name(name) => values.get(name),
+        Target::Addr(addr) => addr,
+    }
+}
+
+/// The call of a command.
+fn call_for(values: &Values, command: Command) -> Call
+    ensures { result ≡ call_of (value_at values.now) command }
+{
+    match command {
+        Command::Alloc { n, zero, .. } => {
+            let flags = Flags {
+                zero,
+                in_place: false,
+            };
+            Call::Alloc { n, flags }
+        }
+        Command::Realloc {
+            target,
+            n,
+            in_place,
+        } => {
+            let addr = address_for(values, target);
+            let flags = Flags {
+                zero: false,
+                in_place,
+            };
+            Call::Realloc { addr, n, flags }
+        }
+        Command::Free { target } => {
+            let addr = address_for(values, target);
+            Call::Free { addr }
+        }
+        Command::Size { target } => {
+            let addr = address_for(values, target);
+            Call::Size { addr }
+        }
+        Command::Get { target, index } => {
+            let addr = address_for(values, target);
+            Call::Get { addr, index }
+        }
+        Command::Put {
+            target,
+            index,
+            value,
+        } => {
+            let addr = address_for(values, target);
+            Call::Put { addr, index, value }
+        }
+        Command::Lock => Call::Lock,
+        Command::Unlock => Call::Unlock,
+        Command::Walk => Call::WalkNext { from: 0 },
+        Command::Compact => Call::Compact,
+    }
+}
+
+/// Gives the name of a command the value that its reply assigns to it.
+fn note(values: &mut Values, command: Command, reply: Reply) -> Result<(), AllocError>
+    ensures { IfOk result (λ _. value_at values.new ≡ assigned (value_at values.old) command reply) }
+{
+    match command {
+        Command::Alloc { name, .. } => note_placed(values, name, reply),
+        Command::Realloc { target, .. } => note_moved(values, target, reply),
+        _ => Ok(()),
+    }
+}
+
+fn note_placed(values: &mut Values, name: u32, reply: Reply) -> Result<(), AllocError>
+    ensures { IfOk result (λ _. value_at values.new ≡ assigned_placed (value_at values.old) name reply) }
+{
+    match reply {
+        Reply::Address(addr) => values.assign(name, addr),
+        _ => values.assign(name, 0),
+    }
+}
+
+fn note_moved(values: &mut Values, target: Target, reply: Reply) -> Result<(), AllocError>
+    ensures { IfOk result (λ _. value_at values.new ≡ assigned_moved (value_at values.old) target reply) }
+{
+    let Target::Name(name) = target else {
+        return Ok(());
+    };
+    match reply {
+        Reply::Address(addr) => values.assign(name, addr),
+        _ => Ok(()),
+    }
+}
