@@ -8,15 +8,15 @@ use Rattle.command_run.specs.Running.{FitThreads, Fit}
 
 pub fit_thread : (threads : List (List Command)) (answers : List (List Reply)) (cs : List Command) (rs : List Reply) → FitThreads threads answers → length rs ≡ length cs → FitThreads (threads ++ cs ∷ []) (answers ++ rs ∷ [])
 fit_thread [] [] cs rs h e = (e, tt)
-fit_thread [] (a ∷ as) cs rs h e = absurd h
+fit_thread [] (a ∷ bs) cs rs h e = absurd h
 fit_thread (t ∷ ts) [] cs rs h e = absurd h
-fit_thread (t ∷ ts) (a ∷ as) cs rs h e = (h.0, fit_thread ts as cs rs h.1 e)
+fit_thread (t ∷ ts) (a ∷ bs) cs rs h e = (h.0, fit_thread ts bs cs rs h.1 e)
 
 pub fit_round : (rounds : List (List (List Command))) (answers : List (List (List Reply))) (threads : List (List Command)) (last : List (List Reply)) → Fit rounds answers → FitThreads threads last → Fit (rounds ++ threads ∷ []) (answers ++ last ∷ [])
 fit_round [] [] threads last h e = (e, tt)
-fit_round [] (a ∷ as) threads last h e = absurd h
+fit_round [] (a ∷ bs) threads last h e = absurd h
 fit_round (t ∷ ts) [] threads last h e = absurd h
-fit_round (t ∷ ts) (a ∷ as) threads last h e = (h.0, fit_round ts as threads last h.1 e)
+fit_round (t ∷ ts) (a ∷ bs) threads last h e = (h.0, fit_round ts bs threads last h.1 e)
 
 pub threads_more : {A : Type 0} (ts : List (List A)) (t : List A) → in_threads (ts ++ t ∷ []) ≡ in_threads ts ++ t
 threads_more [] t = append-nil t

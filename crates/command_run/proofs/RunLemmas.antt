@@ -36,7 +36,7 @@ calls_append v (c ∷ cs) ds (r ∷ rs) qs e =
     let rest = calls_append (assigned v c r) cs ds rs qs (omega arith) in
     (ap (λ (ks : List Call). call_of v c ∷ ks) rest.0, rest.1)
 
-length_append : {A : Type 0} (xs ys : List A) → length (xs ++ ys) ≡ length xs + length ys
+pub length_append : {A : Type 0} (xs ys : List A) → length (xs ++ ys) ≡ length xs + length ys
 length_append [] ys = omega arith
 length_append (x ∷ xs) ys = let rest = length_append xs ys in omega arith
 

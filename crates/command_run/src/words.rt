@@ -1,13 +1,15 @@
 // The words of the program.
-ghost use Rattle.std.specs.Prelude.{◌≡◌, ◌≤◌, map, string_bytes};
+ghost use Rattle.std.specs.Prelude.{◌≡◌, ◌&&◌, ◌≤◌, nat_le, IfSome, if◌then◌else◌, Some, None, map, string_bytes};
 ghost use Rattle.std.specs.Str.{bytes_eq};
 ghost use Rattle.command_run.specs.Words.{segments_of, segments_word};
 
 use script_text::number;
 
 /// How many segments the words give: `--mode one`, then `--segments` with a number of 1 to 16, or nothing for 16.
+#[tactic(auto, unfolding(crate::specs::Words::segments_of))]
 pub fn segments_in(words: &[String]) -> Option<u32>
-    ensures { result ≡ segments_of (map string_bytes words.now) }
+    ensures segments { result ≡ segments_of (map string_bytes words.now) }
+    ensures few { IfSome result (λ n. (1 ≤ n) × (n ≤ 16)) }
 {
     match words {
         [mode, one] => {
@@ -35,7 +37,8 @@ fn is_word(word: &String, text: &[u8]) -> bool
 }
 
 fn segments_word(word: &String) -> Option<u32>
-    ensures { result ≡ segments_word (string_bytes word.now) }
+    ensures word { result ≡ segments_word (string_bytes word.now) }
+    ensures few { IfSome result (λ n. (1 ≤ n) × (n ≤ 16)) }
 {
     match number(word.as_bytes()) {
         Ok(n) => few_segments(n),
@@ -43,7 +46,10 @@ fn segments_word(word: &String) -> Option<u32>
     }
 }
 
-fn few_segments(n: u64) -> Option<u32> {
+fn few_segments(n: u64) -> Option<u32>
+    ensures value { result ≡ (if nat_le 1 n && nat_le n 16 then Some n else None) }
+    ensures few { IfSome result (λ m. (1 ≤ m) × (m ≤ 16)) }
+{
     if 1 <= n && n <= 16 {
         Some(n as u32)
     } else {

@@ -1,6 +1,7 @@
 // Worked histories, each up to its end or its first entry that may not come.
-ghost use Rattle.std.specs.Prelude.{◌≡◌, ◌+◌, true, false, [], ◌∷◌, Some, None, length};
+ghost use Rattle.std.specs.Prelude.{◌≡◌, ◌+◌, true, false, nat_lt, not, [], ◌∷◌, Some, None, length};
 ghost use Rattle.heap_model.specs.declared.Entry.{Entry};
+ghost use Rattle.std.specs.List.{list_any};
 ghost use Rattle.heap_model.specs.History.{is_legal, configuration_of, refused_from, first_configuration};
 ghost use Rattle.heap_model.specs.State.{live};
 ghost use Rattle.heap_laws.specs.Serial.{Serves};
@@ -8,7 +9,7 @@ ghost use Rattle.heap_model.specs.declared.Call.TheVariants as calls;
 ghost use Rattle.heap_model.specs.declared.Reply.TheVariants as replies;
 ghost use Rattle.heap_laws.specs.Rows.{back_end, back_span, four_taken, three_left};
 ghost use Rattle.heap_model.specs.Backend.{back_place};
-ghost use Rattle.heap_laws.specs.Worked.{one, asks_back, allocates_back, wrong_size, wrong_page, frees_back, allocates_vs, three_vs, seventeen_vs, searches_lfh, with_search, drawn, claims_lowest, places_late, plain, first_call, resizes_back, compacts, decommits_wrong, decommits_twice, two, meets_others, meets_owner, fills_large, resizes_vs};
+ghost use Rattle.heap_laws.specs.Worked.{one, asks_back, allocates_back, wrong_size, wrong_page, frees_back, allocates_vs, three_vs, seventeen_vs, searches_lfh, with_search, drawn, claims_lowest, places_late, plain, first_call, resizes_back, compacts, decommits_wrong, decommits_twice, two, meets_others, meets_owner, fills_large, resizes_vs, off_limits, makes_lfh, spans_too_long};
 
 pub fn back_is_legal()
     ensures legal { is_legal one allocates_back ≡ true }
@@ -72,4 +73,16 @@ pub fn more_rows()
 
 pub fn vs_rows()
     ensures { refused_from 1 one first_configuration resizes_vs ≡ length resizes_vs + 1 }
+{}
+
+/// Why the law of the heap asks for a valid setting: a caller that was given a slot that the heap has not makes a span of it.
+pub fn slot_is_off_limits()
+    ensures legal { refused_from 1 off_limits first_configuration (makes_lfh 1) ≡ length (makes_lfh 1) + 1 }
+    ensures slot { list_any (λ x. not (nat_lt x.slot off_limits.limits.slots)) (configuration_of off_limits (makes_lfh 1)).state.back.area.spans ≡ true }
+{}
+
+/// Why a span of the variable-size layer that still waits for its place can be longer than any of its sizes needs: the entry
+/// behind it is the one that may not come.
+pub fn long_span_waits()
+    ensures { refused_from 1 one first_configuration spans_too_long ≡ length spans_too_long }
 {}

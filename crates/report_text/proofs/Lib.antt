@@ -1,0 +1,4 @@
+pub mod ReplyLemmas
+pub mod LayoutLemmas
+pub mod BlockLemmas
+pub mod Ranges

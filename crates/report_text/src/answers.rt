@@ -9,7 +9,7 @@ use std::marker::Model;
 /// The replies to a thread, in the order of its commands.
 #[derive(Drop)]
 pub struct ThreadAnswers {
-    pub replies: Vec<Reply>,
+    replies: Vec<Reply>,
 }
 
 impl Model for ThreadAnswers {
@@ -24,7 +24,7 @@ impl Model for ThreadAnswers {
 /// The answers to the threads of a round.
 #[derive(Drop)]
 pub struct RoundAnswers {
-    pub threads: Vec<ThreadAnswers>,
+    threads: Vec<ThreadAnswers>,
 }
 
 impl Model for RoundAnswers {
@@ -51,7 +51,21 @@ impl Model for Answers {
     ghost view = { λ a. a.rounds.items };
 }
 
+impl ThreadAnswers {
+    pub fn replies(&self) -> &[Reply]
+        ensures { result.now ≡ self.now }
+    {
+        self.replies.as_slice()
+    }
+}
+
 impl RoundAnswers {
+    pub fn threads(&self) -> &[ThreadAnswers]
+        ensures { result.now ≡ self.now }
+    {
+        self.threads.as_slice()
+    }
+
     fn new(alloc: Global) -> RoundAnswers
         ensures { result ≡ [] }
     {

@@ -12,4 +12,5 @@ pub mod Rounds
 pub mod Reading
 pub mod Scripts
 pub mod Unbuilt
+pub mod Values
 pub mod Seen

@@ -17,7 +17,7 @@ use Rattle.heap_model.specs.Legal.{may_follow, after, lies_in, has_place, are_us
 use Rattle.heap_model.specs.History.{may_all_follow}
 use Rattle.heap_laws.specs.Solo.{at_rest, by_zero}
 use Rattle.heap_laws.proofs.PlaceLemmas.{all_inserted}
-use Rattle.heap_laws.proofs.RowLemmas.{paged_above}
+use Rattle.heap_soundness.proofs.RowLemmas.{paged_above}
 use Rattle.heap_laws.proofs.laws.allocation_is_legal.Goals as goal
 
 step : (s : Setting) (m : Configuration) (e : Entry) (es : List Entry) → may_follow s m e ≡ true → may_all_follow s (after s m e) es ≡ true → may_all_follow s m (e ∷ es) ≡ true

@@ -10,7 +10,7 @@ use Rattle.heap_model.specs.Ranges.{gaps}
 use Rattle.heap_model.specs.CallState.{caller_view}
 use Rattle.heap_model.proofs.GateSound.{row_of}
 use Rattle.heap_model.proofs.ListLemmas.{for_some_parts}
-use Rattle.heap_laws.proofs.RowLemmas.{span_row}
+use Rattle.heap_soundness.proofs.RowLemmas.{span_row}
 use Rattle.heap_laws.proofs.laws.one_span.Goals as goal
 
 pub returns : goal.returns

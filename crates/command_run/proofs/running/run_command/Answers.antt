@@ -1,0 +1,16 @@
+use Rattle.std.proofs.Common.{◌≡◌, ℕ, ◌∙◌, sym, subst, ap}
+use Rattle.heap_model.specs.declared.Call.{Call}
+use Rattle.heap_now.specs.Standing.{IsBuilt, Serves}
+use Rattle.command_run.specs.Values.{value_at}
+use Rattle.command_run.specs.Commands.{call_of}
+use Rattle.command_run.proofs.RunLemmas.{runs_one, served_built}
+use Rattle.command_run.proofs.running.run_command.Goals as goal
+
+pub serve-reply-requires : goal.serve-reply-requires
+serve-reply-requires c = subst IsBuilt (sym c.call_for-call.ensures) (served_built (value_at c.args.values.now) c.args.command c.requires)
+
+pub returns : goal.returns
+returns c = λ m st.
+    runs_one c.args.heap.now c.serve-reply.new.self (value_at c.args.values.now) (value_at c.note.new.values) c.args.command c.serve-reply.result m c.serve-reply.ensures.limits c.serve-reply.ensures.seed
+    (subst (λ (k : Call). Serves c.args.heap.now c.serve-reply.new.self m k c.serve-reply.result) c.call_for-call.ensures (c.serve-reply.ensures.serves m st))
+    c.in_ok-note.ensures

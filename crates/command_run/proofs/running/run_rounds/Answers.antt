@@ -1,0 +1,33 @@
+use Rattle.std.proofs.Common.{◌≡◌, ℕ, ◌+◌, ◌++◌, ◌∷◌, [], List, length, take, get_or, map, subst, sym, ap, ◌∙◌}
+use Rattle.heap_model.specs.declared.Reply.{Reply}
+use Rattle.script_text.specs.declared.commands.Command.{Command}
+use Rattle.script_text.specs.ThreadLines.{ThreadLines}
+use Rattle.script_text.specs.Scripts.{round_at, commands_of}
+use Rattle.command_run.specs.Values.{value_at}
+use Rattle.command_run.specs.Commands.{unassigned, round_commands, in_threads, in_rounds}
+use Rattle.command_run.specs.Running.{Runs, RoundRuns, Fit}
+use Rattle.command_run.proofs.RunLemmas.{runs_append}
+use Rattle.command_run.proofs.FitLemmas.{take_mapped, fit_round, rounds_more}
+use Rattle.command_run.proofs.running.run_rounds.Goals as goal
+
+pub loop-round-preserved : goal.loop-round-preserved
+loop-round-preserved c =
+    let s = c.args.script.now in
+    let i = c.loop-round.round in
+    let before = take i (commands_of s) in
+    let threads : List (List Command) = round_commands (round_at s i) in
+    let answers = c.loop-round.answers in
+    let low = rw c.rounds-round-end.ensures at c.loop-round-test.true in
+    let more : take (i + 1) (commands_of s) ≡ before ++ threads ∷ [] = take_mapped round_commands s.rounds i [] low in
+    let x : RoundRuns answers c.run_threads.new.answers c.loop-round.heap c.run_threads.new.heap (value_at c.loop-round.values) (value_at c.run_threads.new.values) threads =
+        c.in_ok-run_threads.ensures answers c.in_ok-add_round.ensures.added in
+    record {
+      fit = subst (λ (ts : List (List (List Command))). Fit ts c.run_threads.new.answers) (sym more)
+          (subst (λ (bs : List (List (List Reply))). Fit (before ++ threads ∷ []) bs) (sym x.answers_are) (fit_round before answers threads x.last c.loop-round.invariant.fit x.fit));
+      runs = λ m st.
+          let y = c.loop-round.invariant.runs m st in
+          subst (λ (ks : List Command). Runs c.args.heap.now c.run_threads.new.heap unassigned (value_at c.run_threads.new.values) ks (in_rounds c.run_threads.new.answers) m) (sym (ap in_rounds more ∙ rounds_more before threads))
+          (subst (λ (ks : List Reply). Runs c.args.heap.now c.run_threads.new.heap unassigned (value_at c.run_threads.new.values) (in_rounds before ++ in_threads threads) ks m) (sym (ap in_rounds x.answers_are ∙ rounds_more answers x.last))
+          (runs_append c.args.heap.now c.loop-round.heap c.run_threads.new.heap unassigned (value_at c.loop-round.values) (value_at c.run_threads.new.values)
+          (in_rounds before) (in_threads threads) (in_rounds answers) (in_threads x.last) m y (x.runs _ y.stands)));
+    }

@@ -1,0 +1,42 @@
+use Rattle.std.proofs.Common.{◌≡◌, ℕ, ◌+◌, ◌++◌, ◌∷◌, [], List, length, take, get_or, map, subst, sym, ap, ◌∙◌}
+use Rattle.heap_model.specs.declared.Reply.{Reply}
+use Rattle.script_text.specs.declared.commands.Command.{Command}
+use Rattle.script_text.specs.declared.commands.CommandLine.{CommandLine}
+use Rattle.script_text.specs.ThreadLines.{ThreadLines}
+use Rattle.script_text.specs.Scripts.{command_of, round_at, thread_at, no_thread}
+use Rattle.heap_now.specs.Standing.{setting_of}
+use Rattle.serial_laws.specs.OneCall.{end_of}
+use Rattle.command_run.specs.Values.{value_at}
+use Rattle.command_run.specs.Commands.{thread_commands, round_commands, in_threads, calls_of}
+use Rattle.command_run.specs.Running.{Runs, RoundRuns, FitThreads}
+use Rattle.command_run.proofs.RunLemmas.{runs_append}
+use Rattle.command_run.proofs.FitLemmas.{take_mapped, fit_thread, threads_more}
+use Rattle.command_run.proofs.running.run_threads.Goals as goal
+
+pub loop-thread-preserved : goal.loop-thread-preserved
+loop-thread-preserved c = λ front e.
+    let x = c.loop-thread.invariant front e in
+    let s = c.args.script.now in
+    let threads = round_at s c.args.round in
+    let i = c.loop-thread.thread in
+    let before = take i (round_commands threads) in
+    let cs : List Command = thread_commands (thread_at s c.args.round i).commands in
+    let rs = c.in_ok-replies.replies.items in
+    let same : thread_commands c.commands.result.now ≡ cs = ap thread_commands c.commands.ensures in
+    let low = rw c.threads-thread-end.ensures at c.loop-thread-test.true in
+    let more : take (i + 1) (round_commands threads) ≡ before ++ cs ∷ [] = take_mapped (λ (t : ThreadLines). map command_of t.commands) threads i no_thread low in
+    let each : length rs ≡ length cs = c.in_ok-replies.ensures.each ∙ ap length same in
+    record {
+      last = x.last ++ rs ∷ [];
+      answers_are = c.in_ok-add_thread.ensures.added front x.last x.answers_are;
+      fit = subst (λ (ts : List (List Command)). FitThreads ts (x.last ++ rs ∷ [])) (sym more) (fit_thread before x.last cs rs x.fit each);
+      runs = λ m st.
+          let y = x.runs m st in
+          let n = end_of (setting_of c.args.heap.now) m (calls_of (value_at c.args.values.now) (in_threads before) (in_threads x.last)) y.rests in
+          let z : Runs c.loop-thread.heap c.run_thread.new.heap (value_at c.loop-thread.values) (value_at c.run_thread.new.values) cs rs n =
+              subst (λ (ks : List Command). Runs c.loop-thread.heap c.run_thread.new.heap (value_at c.loop-thread.values) (value_at c.run_thread.new.values) ks rs n) same (c.in_ok-replies.ensures.runs n y.stands) in
+          subst (λ (ks : List Command). Runs c.args.heap.now c.run_thread.new.heap (value_at c.args.values.now) (value_at c.run_thread.new.values) ks (in_threads (x.last ++ rs ∷ [])) m) (sym (ap in_threads more ∙ threads_more before cs))
+          (subst (λ (ks : List Reply). Runs c.args.heap.now c.run_thread.new.heap (value_at c.args.values.now) (value_at c.run_thread.new.values) (in_threads before ++ cs) ks m) (sym (threads_more x.last rs))
+          (runs_append c.args.heap.now c.loop-thread.heap c.run_thread.new.heap (value_at c.args.values.now) (value_at c.loop-thread.values) (value_at c.run_thread.new.values)
+          (in_threads before) cs (in_threads x.last) rs m y z));
+    }

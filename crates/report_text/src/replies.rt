@@ -1,0 +1,100 @@
+// The lines of replies: by round, then thread, then command.
+ghost use Rattle.std.specs.Prelude.{◌≡◌, ◌+◌, ◌<◌, ◌++◌, length, OnOk, IfOk, string_bytes, if◌then◌else◌};
+ghost use Rattle.script_text.specs.Scripts.{commands_of, round_at, thread_at};
+ghost use Rattle.report_text.specs.Report.{script_lines, round_lines, thread_lines, reply_line, is_seen};
+ghost use Rattle.report_text.specs.Commands.{round_commands, thread_commands};
+
+use crate::answers::{RoundAnswers, ThreadAnswers};
+use crate::words::{push_reply, push_word, word_of_command};
+use heap_model::{OutOfMemory, Reply};
+use script_text::{Command, Script};
+use std::alloc::AllocError;
+
+pub fn push_rounds(
+    text: &mut String,
+    script: &Script,
+    rounds: &[RoundAnswers],
+) -> Result<(), OutOfMemory>
+    ensures { OnOk result (string_bytes text.new ≡ string_bytes text.old ++ script_lines 0 (commands_of script.now) rounds.now) }
+{
+    let count = script.rounds();
+    for (round, answers) in rounds.iter().enumerate() {
+        if round >= count as usize {
+            return Ok(());
+        }
+        push_threads(text, script, round as u32, answers.threads())?;
+    }
+    Ok(())
+}
+
+fn push_threads(
+    text: &mut String,
+    script: &Script,
+    round: u32,
+    threads: &[ThreadAnswers],
+) -> Result<(), OutOfMemory>
+    requires { round < length script.now.rounds }
+    ensures { OnOk result (string_bytes text.new
+        ≡ string_bytes text.old ++ round_lines round 0 (round_commands (round_at script.now round)) threads.now) }
+{
+    let count = script.threads(round);
+    for (thread, answers) in threads.iter().enumerate() {
+        if thread >= count as usize {
+            return Ok(());
+        }
+        push_thread(text, script, round, thread as u32, answers.replies())?;
+    }
+    Ok(())
+}
+
+fn push_thread(
+    text: &mut String,
+    script: &Script,
+    round: u32,
+    thread: u32,
+    replies: &[Reply],
+) -> Result<(), OutOfMemory>
+    requires round { round < length script.now.rounds }
+    requires thread { thread < length (round_at script.now round) }
+    ensures { OnOk result (string_bytes text.new
+        ≡ string_bytes text.old ++ thread_lines round thread (thread_commands (thread_at script.now round thread)) replies.now) }
+{
+    let mut k = 0;
+    for reply in replies {
+        let Some(command) = script.command(round, thread, k) else {
+            return Ok(());
+        };
+        push_line(text, round, thread, command, *reply)?;
+        k = number_after(k, *reply)?;
+    }
+    Ok(())
+}
+
+fn push_line(
+    text: &mut String,
+    round: u32,
+    thread: u32,
+    command: Command,
+    reply: Reply,
+) -> Result<(), AllocError>
+    ensures { OnOk result (string_bytes text.new ≡ string_bytes text.old ++ reply_line round thread command reply) }
+{
+    push_word(text, "", u64::from(round))?;
+    push_word(text, " ", u64::from(thread))?;
+    text.push_str(" ")?;
+    text.push_str(word_of_command(command))?;
+    text.push_str(" ")?;
+    push_reply(text, reply)?;
+    text.push_str("\n")
+}
+
+/// The number of the command that the next reply belongs to. A block that a walk has seen is not the last reply to the walk. A
+/// script of at most 1,048,576 bytes has fewer commands than a `u32` counts, so the count never ends.
+fn number_after(k: u32, reply: Reply) -> Result<u32, OutOfMemory>
+    ensures { IfOk result (λ next. next ≡ (if is_seen reply then k else k + 1)) }
+{
+    match reply {
+        Reply::Seen(_) => Ok(k),
+        _ => k.checked_add(1).ok_or(OutOfMemory),
+    }
+}
