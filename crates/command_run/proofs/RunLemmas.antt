@@ -1,5 +1,5 @@
 -- On commands that are run one after another.
-use Rattle.std.proofs.Common.{◌≡◌, ℕ, ◌+◌, ◌≤◌, true, false, List, [], ◌∷◌, ◌++◌, length, refl, sym, ap, subst, ◌∙◌, arith}
+use Rattle.std.proofs.Common.{◌≡◌, ℕ, ◌+◌, true, false, List, [], ◌∷◌, ◌++◌, length, refl, sym, ap, subst, ◌∙◌, arith}
 use Rattle.heap_model.specs.declared.Act.{Act}
 use Rattle.heap_model.specs.declared.Act.TheVariants as acts
 use Rattle.heap_model.specs.declared.Call.{Call}
@@ -50,15 +50,15 @@ runs_append a b c u v w cs ds rs qs m x y =
     let n = end_of (setting_of a) m (calls_of u cs rs) x.rests in
     let same = same_setting a b x.limits x.seed in
     let more : CompleteInTurn (setting_of a) n (calls_of (values_after u cs rs) ds qs) qs y.rests =
-        subst (λ (s : Setting). CompleteInTurn s n (calls_of (values_after u cs rs) ds qs) qs y.rests) same
-        (subst (λ (z : ℕ → ℕ). CompleteInTurn (setting_of b) n (calls_of z ds qs) qs y.rests) x.values_are y.complete) in
+    subst (λ (s : Setting). CompleteInTurn s n (calls_of (values_after u cs rs) ds qs) qs y.rests) same
+    (subst (λ (z : ℕ → ℕ). CompleteInTurn (setting_of b) n (calls_of z ds qs) qs y.rests) x.values_are y.complete) in
     let both = turns_append (setting_of a) m (calls_of u cs rs) (calls_of (values_after u cs rs) ds qs) rs qs x.rests y.rests x.complete more in
     let calls = calls_append u cs ds rs qs x.each in
     let ends : end_of (setting_of b) n (calls_of v ds qs) y.rests ≡ end_of (setting_of a) m (calls_of u (cs ++ ds) (rs ++ qs)) (x.rests ++ y.rests) =
-        ap (λ (s : Setting). end_of s n (calls_of v ds qs) y.rests) same
-        ∙ ap (λ (z : ℕ → ℕ). end_of (setting_of a) n (calls_of z ds qs) y.rests) x.values_are
-        ∙ sym both.1
-        ∙ ap (λ (ks : List Call). end_of (setting_of a) m ks (x.rests ++ y.rests)) (sym calls.0) in
+    ap (λ (s : Setting). end_of s n (calls_of v ds qs) y.rests) same
+    ∙ ap (λ (z : ℕ → ℕ). end_of (setting_of a) n (calls_of z ds qs) y.rests) x.values_are
+    ∙ sym both.1
+    ∙ ap (λ (ks : List Call). end_of (setting_of a) m ks (x.rests ++ y.rests)) (sym calls.0) in
     record {
       rests = x.rests ++ y.rests;
       complete = subst (λ (ks : List Call). CompleteInTurn (setting_of a) m ks (rs ++ qs) (x.rests ++ y.rests)) (sym calls.0) both.0;

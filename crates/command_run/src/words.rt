@@ -20,7 +20,10 @@ pub fn segments_in(words: &[String]) -> Option<u32>
             }
         }
         [mode, one, segments, count] => {
-            if is_word(mode, b"--mode") && is_word(one, b"one") && is_word(segments, b"--segments") {
+            if is_word(mode, b"--mode")
+                && is_word(one, b"one")
+                && is_word(segments, b"--segments")
+            {
                 segments_word(count)
             } else {
                 None

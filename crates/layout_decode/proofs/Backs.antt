@@ -71,24 +71,29 @@ step words from to page (x ∷ xs) r a f = elim (cases_Bool (begins_from page x)
       let low = below_is (x.first + x.pages) x (omega (arith, a.1.some)) in
       let here = above_is page x l in
       let S : Run → Type 0 = λ y. Step to page (x ∷ xs) y × (from ≤ y.first) in
-      subst S same (record {
-        above = l;
-        some = a.1.some;
-        below = omega (arith, a.0);
-        if_back = λ b. rw (low, here, b) (ap (λ (ys : List Run). x ∷ ys) behind);
-        if_other = λ b. rw (low, here, b) behind;
-      }, omega (arith, a.0))
+      subst S same (
+        record {
+          above = l;
+          some = a.1.some;
+          below = omega (arith, a.0);
+          if_back = λ b. rw (low, here, b) (ap (λ (ys : List Run). x ∷ ys) behind);
+          if_other = λ b. rw (low, here, b) behind;
+        },
+        omega (arith, a.0),
+      )
   | inr e ↦
       let none = none_begins page x e in
       let rest = step words (from + x.pages) to page xs r a.2 (rw e at f) in
-      let low = below_is (r.first + r.pages) x (omega (arith, a.0, a.1.some, rest.1)) in
-      (record {
-        above = rest.0.above;
-        some = rest.0.some;
-        below = rest.0.below;
-        if_back = λ b. rw (none, low) (rest.0.if_back b);
-        if_other = λ b. rw (none, low) (rest.0.if_other b);
-      }, omega (arith, rest.1))
+      let low = below_is (r.first + r.pages) x (omega (arith, a.0, a.1.some, rest.1)) in (
+        record {
+          above = rest.0.above;
+          some = rest.0.some;
+          below = rest.0.below;
+          if_back = λ b. rw (none, low) (rest.0.if_back b);
+          if_other = λ b. rw (none, low) (rest.0.if_other b);
+        },
+        omega (arith, rest.1),
+      )
 ]
 
 -- What follows the first run of the back end from a page on.
@@ -109,12 +114,15 @@ back_step words from to page (x ∷ xs) r a f = elim (cases_Bool (is_back_from p
       let behind = all_behind words (from + x.pages) to page (x.first + x.pages) xs a.2 (omega (arith, a.0)) (omega (arith, a.0)) in
       let low = below_is (x.first + x.pages) x (omega (arith, a.1.some)) in
       let S : Run → Type 0 = λ y. BackStep to page (x ∷ xs) y × (from ≤ y.first) in
-      subst S same (record {
-        above = l;
-        some = a.1.some;
-        below = omega (arith, a.0);
-        picked = rw (low, e) (ap (λ (ys : List Run). x ∷ ys) behind);
-      }, omega (arith, a.0))
+      subst S same (
+        record {
+          above = l;
+          some = a.1.some;
+          below = omega (arith, a.0);
+          picked = rw (low, e) (ap (λ (ys : List Run). x ∷ ys) behind);
+        },
+        omega (arith, a.0),
+      )
   | inr e ↦
       let rest = back_step words (from + x.pages) to page xs r a.2 (rw e at f) in
       let low = below_is (r.first + r.pages) x (omega (arith, a.0, a.1.some, rest.1)) in

@@ -52,3 +52,6 @@ pub fn count_blocks(image: &Image) -> (u64, u64)
 {
     count_from(&image.descs)
 }
+
+#[cfg(test)]
+mod tests;

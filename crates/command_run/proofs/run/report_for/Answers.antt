@@ -1,12 +1,11 @@
-use Rattle.std.proofs.Common.{◌≡◌, ℕ, List, Result, Ok, Err, IfOk, ◌∙◌, refl, sym, ap, subst}
+use Rattle.std.proofs.Common.{◌≡◌, ℕ, List, Result, Ok, Err, IfOk, ◌∙◌, ap, subst}
 use Rattle.heap_model.specs.declared.OutOfMemory.{OutOfMemory}
 use Rattle.report_text.specs.declared.Text.{Text}
 use Rattle.report_text.specs.Text.{bytes_of}
 use Rattle.command_run.specs.Due.{IsReportOf}
-use Rattle.heap_model.specs.declared.Block.{Block}
 use Rattle.heap_model.specs.declared.Call.{Call}
 use Rattle.heap_model.specs.declared.Limits.{Limits}
-use Rattle.heap_model.specs.State.{State, live}
+use Rattle.heap_model.specs.State.{live}
 use Rattle.heap_model.specs.Layout.{PageRange, page_ranges_of}
 use Rattle.heap_model.specs.Serial.{IsSerial}
 use Rattle.heap_model.specs.CallState.{Configuration}
@@ -19,7 +18,7 @@ use Rattle.layout_decode.specs.Decode.{decode}
 use Rattle.report_text.specs.Report.{report_of}
 use Rattle.report_text.specs.Image.{ranges_of}
 use Rattle.report_text.proofs.Ranges.{ranges_are}
-use Rattle.heap_now.specs.Standing.{setting_of, Stands}
+use Rattle.heap_now.specs.Standing.{setting_of}
 use Rattle.command_run.specs.Commands.{unassigned, calls_of, in_rounds}
 use Rattle.command_run.specs.Words.{limits_of}
 use Rattle.command_run.proofs.ServedLemmas.{fit_served}
@@ -46,18 +45,18 @@ returns c =
     let last : Configuration = end_of (setting_of heap) first_configuration calls now.1.rests in
     let limits : heap.limits ≡ limits_of c.args.segments = c.in_ok-heap.ensures.limits ∙ c.limits_for.ensures in
     let history : IsSerial (limits_of c.args.segments) 1 calls (in_rounds answers) last.state =
-        subst (λ (l : Limits). IsSerial l 1 calls (in_rounds answers) last.state) limits
-        (subst (λ (z : ℕ). IsSerial heap.limits z calls (in_rounds answers) last.state) c.in_ok-heap.ensures.seed
-        (serial heap.limits heap.seed calls (in_rounds answers) now.1.rests now.1.complete)) in
+    subst (λ (l : Limits). IsSerial l 1 calls (in_rounds answers) last.state) limits
+    (subst (λ (z : ℕ). IsSerial heap.limits z calls (in_rounds answers) last.state) c.in_ok-heap.ensures.seed
+    (serial heap.limits heap.seed calls (in_rounds answers) now.1.rests now.1.complete)) in
     let ranges : ranges_of image ≡ page_ranges_of last.state.back.area = ranges_are image _ last.state (c.close-image.ensures.shows last now.1.stands) in
     let blocks : decode image.descs ≡ live last.state = c.close-image.ensures.blocks last now.1.stands in
     report_text_of c.report.result (report_of commands answers (ranges_of image) (decode image.descs)) c.args.segments script
-        (λ written e. record {
-          answers = answers;
-          state = last.state;
-          fit = c.in_ok-answers.ensures.fit;
-          serial = history;
-          report = e ∙ ap (λ (rs : List PageRange). report_of commands answers rs (decode image.descs)) ranges
-            ∙ ap (report_of commands answers (page_ranges_of last.state.back.area)) blocks;
-        })
-        c.report.ensures
+    (λ written e. record {
+      answers = answers;
+      state = last.state;
+      fit = c.in_ok-answers.ensures.fit;
+      serial = history;
+      report = e ∙ ap (λ (rs : List PageRange). report_of commands answers rs (decode image.descs)) ranges
+          ∙ ap (report_of commands answers (page_ranges_of last.state.back.area)) blocks;
+    })
+    c.report.ensures

@@ -1,8 +1,7 @@
-use Rattle.std.proofs.Common.{◌≡◌, ℕ, ◌∙◌, sym, subst, ap}
+use Rattle.std.proofs.Common.{sym, subst}
 use Rattle.heap_model.specs.declared.Call.{Call}
 use Rattle.heap_now.specs.Standing.{IsBuilt, Serves}
 use Rattle.command_run.specs.Values.{value_at}
-use Rattle.command_run.specs.Commands.{call_of}
 use Rattle.command_run.proofs.RunLemmas.{runs_one, served_built}
 use Rattle.command_run.proofs.running.run_command.Goals as goal
 

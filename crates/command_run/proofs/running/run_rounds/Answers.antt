@@ -1,7 +1,6 @@
-use Rattle.std.proofs.Common.{◌≡◌, ℕ, ◌+◌, ◌++◌, ◌∷◌, [], List, length, take, get_or, map, subst, sym, ap, ◌∙◌}
+use Rattle.std.proofs.Common.{◌≡◌, ◌+◌, ◌++◌, ◌∷◌, [], List, take, subst, sym, ap, ◌∙◌}
 use Rattle.heap_model.specs.declared.Reply.{Reply}
 use Rattle.script_text.specs.declared.commands.Command.{Command}
-use Rattle.script_text.specs.ThreadLines.{ThreadLines}
 use Rattle.script_text.specs.Scripts.{round_at, commands_of}
 use Rattle.command_run.specs.Values.{value_at}
 use Rattle.command_run.specs.Commands.{unassigned, round_commands, in_threads, in_rounds}
@@ -20,7 +19,7 @@ loop-round-preserved c =
     let low = rw c.rounds-round-end.ensures at c.loop-round-test.true in
     let more : take (i + 1) (commands_of s) ≡ before ++ threads ∷ [] = take_mapped round_commands s.rounds i [] low in
     let x : RoundRuns answers c.run_threads.new.answers c.loop-round.heap c.run_threads.new.heap (value_at c.loop-round.values) (value_at c.run_threads.new.values) threads =
-        c.in_ok-run_threads.ensures answers c.in_ok-add_round.ensures.added in
+    c.in_ok-run_threads.ensures answers c.in_ok-add_round.ensures.added in
     record {
       fit = subst (λ (ts : List (List (List Command))). Fit ts c.run_threads.new.answers) (sym more)
           (subst (λ (bs : List (List (List Reply))). Fit (before ++ threads ∷ []) bs) (sym x.answers_are) (fit_round before answers threads x.last c.loop-round.invariant.fit x.fit));

@@ -1,4 +1,4 @@
-use Rattle.std.proofs.Common.{◌≡◌, List, take}
+use Rattle.std.proofs.Common.{take}
 use Rattle.heap_model.specs.CallState.{Configuration}
 use Rattle.heap_now.specs.Standing.{Stands}
 use Rattle.script_text.specs.Scripts.{commands_of}

@@ -1,6 +1,4 @@
-use Rattle.std.proofs.Common.{◌≡◌, ℕ, ◌+◌, ◌++◌, ◌∷◌, [], List, false, length, take, get_or, arith, subst, sym, ap, ◌∙◌}
-use Rattle.heap_model.specs.declared.Reply.{Reply}
-use Rattle.script_text.specs.declared.commands.Command.{Command}
+use Rattle.std.proofs.Common.{◌≡◌, ◌+◌, ◌++◌, ◌∷◌, [], false, length, take, get_or, subst, sym, ap, ◌∙◌}
 use Rattle.script_text.specs.declared.commands.Command.TheVariants as commands
 use Rattle.script_text.specs.declared.commands.CommandLine.{CommandLine}
 use Rattle.script_text.specs.Scripts.{command_of}
@@ -8,7 +6,7 @@ use Rattle.command_run.specs.Values.{value_at}
 use Rattle.command_run.specs.Commands.{thread_commands}
 use Rattle.command_run.specs.Running.{Runs}
 use Rattle.command_run.proofs.RunLemmas.{runs_append, length_append}
-use Rattle.command_run.proofs.FitLemmas.{take_mapped, take_whole}
+use Rattle.command_run.proofs.FitLemmas.{take_mapped}
 use Rattle.command_run.proofs.running.run_thread.Goals as goal
 
 pub loop-line-preserved : goal.loop-line-preserved

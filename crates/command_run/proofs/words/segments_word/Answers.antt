@@ -1,4 +1,4 @@
-use Rattle.std.proofs.Common.{◌≡◌, ℕ, ◌∙◌, Bool, true, false, ◌&&◌, List, Option, Some, None, Ok, Err, refl, sym, ap, leb, inl, inr, cond}
+use Rattle.std.proofs.Common.{◌≡◌, ℕ, ◌∙◌, ◌&&◌, List, Some, None, Ok, Err, refl, sym, ap, leb, inl, inr}
 use Rattle.std.proofs.lemmas.Bool.{cases_Bool}
 use Rattle.std.specs.Prelude.{string_bytes, if◌then◌else◌}
 use Rattle.script_text.specs.Words.{is_number, value_of, number_field}
