@@ -1,12 +1,10 @@
 -- The free runs of an area with one segment more.
-use Rattle.std.proofs.Common.{◌≡◌, ℕ, zero, suc, ◌+◌, ◌-◌, ◌*◌, ◌/◌, ◌%◌, ◌<◌, ◌≤◌, Bool, true, false, ◌&&◌, ◌||◌, not, cond, List, [], ◌∷◌, ◌++◌, Option, Some, None, refl, sym, ap, subst, ◌∙◌, arith, eqb, leb, ltb, inl, inr}
-use Rattle.std.specs.Prelude.{filter}
-use Rattle.std.specs.List.{AllByRecursion, list_any, list_all}
-use Rattle.std.proofs.lemmas.Bool.{cases_Bool, and_from, eq-eqb, ne_eqb, le-leb, lt-leb, lt-ltb, le-ltb, leb-true, leb-false}
-use Rattle.heap_model.specs.Runs.{Run, joined, runs, fitting, least}
+use Rattle.std.proofs.Common.{◌≡◌, ℕ, zero, suc, ◌+◌, ◌-◌, ◌*◌, ◌/◌, ◌%◌, ◌<◌, ◌≤◌, Bool, false, List, [], ◌∷◌, ◌++◌, refl, ap, subst, ◌∙◌, arith, eqb, leb, inl, inr}
+use Rattle.std.specs.List.{AllByRecursion, list_any}
+use Rattle.std.proofs.lemmas.Bool.{cases_Bool, ne_eqb, le-leb, lt-leb, lt-ltb, le-ltb, leb-true, leb-false}
+use Rattle.heap_model.specs.Runs.{Run, joined, runs}
 use Rattle.heap_model.specs.State.{Area, Span}
-use Rattle.heap_model.specs.Backend.{in_span, is_usable, is_free, free_runs, is_better, back_place, next_segment}
-use Rattle.heap_model.specs.Legal.{is_run_of}
+use Rattle.heap_model.specs.Backend.{in_span, is_free, free_runs}
 use Rattle.serial_laws.specs.BackCalls.{one_more_reserved}
 use Rattle.heap_now.proofs.Tail.{tail, tail_run}
 

@@ -1,25 +1,21 @@
 -- The image of a heap shows the state that the heap stands for.
-use Rattle.std.proofs.Common.{◌≡◌, ℕ, ◌+◌, ◌-◌, ◌*◌, ◌<◌, ◌≤◌, Bool, true, false, ◌&&◌, List, [], ◌∷◌, map, Option, Some, None, refl, sym, ap, subst, ◌∙◌, arith, eqb}
+use Rattle.std.proofs.Common.{◌≡◌, ℕ, ◌+◌, ◌-◌, ◌*◌, ◌<◌, true, false, List, [], ◌∷◌, map, Option, Some, refl, sym, ap, subst, ◌∙◌, arith}
 use Rattle.std.specs.Prelude.{option_and_then, unwrap_or}
 use Rattle.std.specs.List.{AllByRecursion, find}
 use Rattle.std.proofs.lemmas.Bool.{eq-eqb, ne_eqb}
-use Rattle.heap_model.specs.declared.Kind.{Kind}
-use Rattle.heap_model.specs.declared.Kind.TheVariants as kinds
 use Rattle.heap_model.specs.declared.Run.{Run}
-use Rattle.heap_model.specs.declared.Limits.{Limits}
-use Rattle.heap_model.specs.State.{Area, Place, Span, live_size, has_address}
+use Rattle.heap_model.specs.State.{Area, Place, live_size}
 use Rattle.heap_model.specs.Backend.{free_runs}
 use Rattle.heap_model.specs.CallState.{Configuration}
-use Rattle.page_region.specs.Held.{Held, committed_of}
-use Rattle.page_ranges.specs.Words.{runs_of}
+use Rattle.page_region.specs.Held.{Held}
 use Rattle.page_ranges.specs.Spans.{span_of, AreRising}
 use Rattle.page_ranges.proofs.Blocks.{taken_rise}
-use Rattle.backend_fit.specs.Kept.{Kept, area_of, taken_in}
+use Rattle.backend_fit.specs.Kept.{taken_in}
 use Rattle.backend_fit.specs.Sound.{IsSound}
 use Rattle.backend_fit.proofs.Segment.{frees_of}
 use Rattle.layout_decode.specs.Shows.{Shows, run_of_span, unused_in}
-use Rattle.heap_now.specs.Blocks.{is_block_at, block_size}
-use Rattle.heap_now.specs.Standing.{LoneHeap, place_of, IsBlockRun, Stands}
+use Rattle.heap_now.specs.Blocks.{is_block_at}
+use Rattle.heap_now.specs.Standing.{LoneHeap, IsBlockRun, Stands}
 use Rattle.heap_now.proofs.Rising.{is_at}
 use Rattle.heap_now.proofs.StandFree.{place_found}
 
@@ -47,9 +43,9 @@ module _ (h : LoneHeap) (m : Configuration) (st : Stands h m) (sound : IsSound h
       let place = place_found h m st sound (4096 * r.first) r f in
       let size : 4096 * r.pages - (4096 * r.pages - r.mark.unused) ≡ r.mark.unused = omega (arith, b.unused) in
       let unused : unused_in m.state.back.places (span_of r) r.mark.kind ≡ r.mark.unused =
-          ap (unused_in m.state.back.places (span_of r)) b.kind
-          ∙ ap (λ (o : Option Place). 4096 * r.pages - unwrap_or (option_and_then (λ (p : Place). live_size p.status) o) 0) place
-          ∙ size in
+      ap (unused_in m.state.back.places (span_of r)) b.kind
+      ∙ ap (λ (o : Option Place). 4096 * r.pages - unwrap_or (option_and_then (λ (p : Place). live_size p.status) o) 0) place
+      ∙ size in
       ap (λ (u : ℕ). record { first = r.first; pages = r.pages; mark = record { kind = r.mark.kind; bucket = r.mark.bucket; slot = r.mark.slot; unused = u } }) unused
 
   runs_are : (rs : List Run) → AllByRecursion IsBlockRun rs → AllByRecursion (IsFoundIn (taken_in h.kept.words)) rs → rs ≡ map (run_of_span m.state.back.places) (map span_of rs)

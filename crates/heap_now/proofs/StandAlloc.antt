@@ -1,8 +1,7 @@
 -- An allocation, from a heap that stands for a configuration.
-use Rattle.std.proofs.Common.{◌≡◌, ℕ, zero, suc, ◌+◌, ◌-◌, ◌*◌, ◌/◌, ◌%◌, ◌<◌, ◌≤◌, Bool, true, false, ◌&&◌, ◌||◌, not, List, [], ◌∷◌, ◌++◌, map, Option, Some, None, refl, sym, ap, subst, ◌∙◌, arith, eqb, leb, ltb, inl, inr, ◌⊎◌}
-use Rattle.std.specs.Prelude.{filter}
+use Rattle.std.proofs.Common.{◌≡◌, ℕ, zero, suc, ◌+◌, ◌-◌, ◌*◌, ◌/◌, ◌<◌, ◌≤◌, Bool, true, ◌||◌, not, List, [], ◌∷◌, ◌++◌, map, Option, Some, None, refl, sym, ap, subst, ◌∙◌, arith, eqb, leb, ltb, inl, inr}
 use Rattle.std.specs.List.{AllByRecursion, list_all}
-use Rattle.std.proofs.lemmas.Bool.{cases_Bool, and_from, and_parts, eq-eqb, le-leb, lt-leb, lt-ltb, le-ltb, ltb-true, leb-false, leb-true, or_left, or_right}
+use Rattle.std.proofs.lemmas.Bool.{cases_Bool, and_from, and_parts, eq-eqb, le-leb, lt-leb, lt-ltb, le-ltb, ltb-true, leb-false, leb-true, or_right}
 use Rattle.heap_model.specs.declared.Call.TheVariants as calls
 use Rattle.heap_model.specs.declared.Kind.{Kind}
 use Rattle.heap_model.specs.declared.Kind.TheVariants as kinds
@@ -176,18 +175,18 @@ module _ (h : LoneHeap) (m : Configuration) (st : Stands h m) (sound : IsSound h
           let free = one_run_more area below in
           let fits = le-leb (pages_of n) 254 few in
           let place_more : back_place more h.limits.segments (pages_of n) ≡ Some first =
-              ap (λ (rs : List Run). first_or (least (is_better more) rs) (next_segment more h.limits.segments (pages_of n))) (ap (fitting (pages_of n)) free ∙ fitting_append (pages_of n) (free_runs area) (record { first = 256 * area.reserved + 2; count = 254 } ∷ []) ∙ ap (λ (rs : List Run). rs ++ fitting (pages_of n) (record { first = 256 * area.reserved + 2; count = 254 } ∷ [])) none)
-              ∙ rw fits (ap Some (sym w)) in
+          ap (λ (rs : List Run). first_or (least (is_better more) rs) (next_segment more h.limits.segments (pages_of n))) (ap (fitting (pages_of n)) free ∙ fitting_append (pages_of n) (free_runs area) (record { first = 256 * area.reserved + 2; count = 254 } ∷ []) ∙ ap (λ (rs : List Run). rs ++ fitting (pages_of n) (record { first = 256 * area.reserved + 2; count = 254 } ∷ [])) none)
+          ∙ rw fits (ap Some (sym w)) in
           let segment = eq-eqb ((256 * area.reserved + 2) / 256) area.reserved (omega arith) in
           let short = subst (λ (rs : List Run). list_all (λ r. is_run_of area.reserved r || ltb r.count (pages_of n)) rs ≡ true) (sym free)
-              (all_short (is_run_of area.reserved) (pages_of n) (free_runs area) (record { first = 256 * area.reserved + 2; count = 254 } ∷ []) none (rw segment refl)) in
+          (all_short (is_run_of area.reserved) (pages_of n) (free_runs area) (record { first = 256 * area.reserved + 2; count = 254 } ∷ []) none (rw segment refl)) in
           placed first new g more (ap (λ (a : Area). with_segment a first) (sym st.area) ∙ next_one area first w)
           (reserving (setting_of h) m n first st.limits.some_callers st.at_rest (paged_route n low high) place_more (omega (arith, w)) less short)
 
   refuse_serves : HasNoPlace h.kept h.kept n → Serves h h m (calls.Alloc n plain) replies.NoFit
   refuse_serves g =
       let none : back_place area h.limits.segments (pages_of n) ≡ None =
-          ap (λ (a : Area). back_place a h.limits.segments (pages_of n)) st.area ∙ ap (λ (q : ℕ). back_place (area_of h.kept) q (pages_of n)) (sym st.segments) ∙ g.none in
+      ap (λ (a : Area). back_place a h.limits.segments (pages_of n)) st.area ∙ ap (λ (q : ℕ). back_place (area_of h.kept) q (pages_of n)) (sym st.segments) ∙ g.none in
       let e = refusal (setting_of h) m n st.limits.some_callers st.at_rest (paged_route n low high) none in
       record { rest = e.rest; completes = e.completes; stands = stands_still h m st sound _ e.at_rest e.only }
 

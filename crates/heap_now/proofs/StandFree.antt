@@ -1,27 +1,24 @@
 -- A free and a question for the size, from a heap that stands for a configuration.
-use Rattle.std.proofs.Common.{◌≡◌, ℕ, ◌+◌, ◌-◌, ◌*◌, ◌/◌, ◌<◌, ◌≤◌, Bool, true, false, ◌&&◌, List, [], ◌∷◌, map, Option, Some, None, refl, sym, ap, subst, ◌∙◌, arith, eqb, inl, inr}
+use Rattle.std.proofs.Common.{◌≡◌, ℕ, ◌*◌, ◌/◌, true, false, List, map, Some, None, refl, sym, ap, subst, ◌∙◌, arith, eqb, inl, inr}
 use Rattle.std.specs.Prelude.{option_map}
 use Rattle.std.specs.List.{AllByRecursion, find, list_any}
 use Rattle.std.proofs.lemmas.Bool.{cases_Bool}
-use Rattle.heap_model.specs.declared.Act.TheVariants as acts
 use Rattle.heap_model.specs.declared.Call.TheVariants as calls
 use Rattle.heap_model.specs.declared.Reply.{Reply}
 use Rattle.heap_model.specs.declared.Reply.TheVariants as replies
 use Rattle.heap_model.specs.declared.Kind.TheVariants as kinds
 use Rattle.heap_model.specs.declared.Run.{Run}
-use Rattle.heap_model.specs.State.{Area, Place, VsPart, Span, has_address, is_live_at, by_address, remove_found}
+use Rattle.heap_model.specs.State.{Area, Place, VsPart, has_address, is_live_at, by_address, remove_found}
 use Rattle.heap_model.specs.CallState.{Configuration}
 use Rattle.heap_model.specs.Search.{begins_at, span_at}
 use Rattle.heap_model.specs.Legal.{lies_in, has_place, are_used, has_live}
-use Rattle.heap_model.specs.Alone.{configuration_by}
 use Rattle.serial_laws.specs.OneCall.{IsAtRest}
-use Rattle.serial_laws.specs.BackCalls.{Ends, OnlyBack, live_place, area_without, places_without, IsNotLive}
+use Rattle.serial_laws.specs.BackCalls.{OnlyBack, live_place, area_without, places_without, IsNotLive}
 use Rattle.serial_laws.proofs.Free.{frees, sizes, not_live}
 use Rattle.serial_laws.proofs.Sorted.{OnlyOne, any_sorted, found_sorted, removed_sorted}
-use Rattle.page_ranges.specs.Words.{runs_of}
 use Rattle.page_ranges.specs.Spans.{span_of, AreRising}
 use Rattle.page_ranges.proofs.Blocks.{taken_rise}
-use Rattle.backend_fit.specs.Kept.{Kept, area_of, taken_in, starts_at, without_span}
+use Rattle.backend_fit.specs.Kept.{Kept, area_of, taken_in, starts_at}
 use Rattle.backend_fit.specs.Sound.{IsSound}
 use Rattle.backend_fit.proofs.Tiled.{spans_remove}
 use Rattle.heap_now.specs.Blocks.{is_block_at, block_size, IsGivenBack, Frees, Sizes}
@@ -63,7 +60,7 @@ module _ (h : LoneHeap) (m : Configuration) (st : Stands h m) (sound : IsSound h
   pub none_lives : (addr : ℕ) → find (is_block_at addr) runs ≡ None → IsNotLive m.state addr
   none_lives addr f =
       let back : has_live m.state.back.places addr ≡ false =
-          sym (any_sorted (is_live_at addr) m.state.back.places) ∙ ap (list_any (is_live_at addr)) st.places ∙ any_place (is_live_at addr) addr (live_test addr) runs st.blocks f in
+      sym (any_sorted (is_live_at addr) m.state.back.places) ∙ ap (list_any (is_live_at addr)) st.places ∙ any_place (is_live_at addr) addr (live_test addr) runs st.blocks f in
       (ap (λ (ps : List Place). has_live ps addr) st.lfh, ap (λ (ps : List Place). has_live ps addr) st.vs, back, ap (λ (ps : List Place). has_live ps addr) st.large)
 
   -- what a call that changes the back end alone leaves standing
@@ -96,11 +93,11 @@ module _ (h : LoneHeap) (m : Configuration) (st : Stands h m) (sound : IsSound h
       let spanned : span_at m.state.back.area (addr / 4096) ≡ Some (span_of r) = rw (page, spans) (span_found addr runs r st.blocks f) in
       let less = places_less addr r f in
       let unused : has_place 4096 (places_without m.state.back.places addr) (span_of r) ≡ false =
-          sym (any_sorted (lies_in 4096 (span_of r)) (places_without m.state.back.places addr)) ∙ ap (list_any (lies_in 4096 (span_of r))) less ∙ no_other addr 0 runs r rising st.blocks f in
+      sym (any_sorted (lies_in 4096 (span_of r)) (places_without m.state.back.places addr)) ∙ ap (list_any (lies_in 4096 (span_of r))) less ∙ no_other addr 0 runs r rising st.blocks f in
       let rest_spans : remove_found (begins_at (addr / 4096)) m.state.back.area.spans ≡ map span_of (remove_found (starts_at r.first) runs) = rw (page, spans) (sym (spans_remove r.first runs)) in
       let used : are_used 4096 kinds.Back (places_without m.state.back.places addr) (area_without m.state.back.area addr).spans ≡ true =
-          rw rest_spans (all_used (places_without m.state.back.places addr) (remove_found (starts_at r.first) runs)
-          (λ test k. sym (any_sorted test (places_without m.state.back.places addr)) ∙ ap (list_any test) less ∙ k)) in
+      rw rest_spans (all_used (places_without m.state.back.places addr) (remove_found (starts_at r.first) runs)
+      (λ test k. sym (any_sorted test (places_without m.state.back.places addr)) ∙ ap (list_any test) less ∙ k)) in
       let e = frees (setting_of h) m addr (256 * r.pages) (block_size r) (span_of r) st.limits.some_callers st.at_rest place spanned block.kind unused used in
       let gone : area_without m.state.back.area addr ≡ area_of new = ap (λ (a : Area). area_without a addr) st.area ∙ ap (λ (p : ℕ). record { reserved = h.kept.region.reserved; committed = (area_of h.kept).committed; spans = remove_found (begins_at p) (area_of h.kept).spans }) page ∙ sym g.area in
       record {

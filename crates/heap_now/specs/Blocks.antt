@@ -1,5 +1,5 @@
 -- Blocks of the back end: what an allocation, a free and a question for the size do with the runs of a back end.
-use Rattle.std.specs.Prelude.{◌≡◌, ◌⊎◌, ℕ, ◌*◌, ◌-◌, ◌==◌, Bool, ◌&&◌, Option, Some, None}
+use Rattle.std.specs.Prelude.{◌≡◌, ℕ, ◌*◌, ◌-◌, ◌==◌, Bool, ◌&&◌, Some, None}
 use Rattle.std.specs.List.{find}
 use Rattle.heap_model.specs.declared.Kind.TheVariants as kinds
 use Rattle.heap_model.specs.declared.Reply.{Reply}

@@ -87,3 +87,38 @@ impl Solo {
         }
     }
 }
+
+#[cfg(test)]
+mod tests {
+    use super::*;
+    use heap_model::Flags;
+    use std::test::Fail;
+
+    const ONE_SEGMENT: Limits = Limits {
+        segments: 1,
+        large_pages: 0,
+        slots: 1,
+        callers: 1,
+    };
+
+    const PLAIN: Flags = Flags {
+        zero: false,
+        in_place: false,
+    };
+
+    #[test]
+    fn serves_a_block(rt: HostRuntime) -> Result<(), Fail> {
+        let mut heap = Solo::new(rt.alloc(), ONE_SEGMENT, 1)?;
+        let alloc = Call::Alloc {
+            n: 131_073,
+            flags: PLAIN,
+        };
+        assert!(rt; heap.serve(&alloc) == Reply::Address(8192));
+        assert!(rt; heap.serve(&Call::Size { addr: 8192 }) == Reply::Number(131_073));
+        assert!(rt; heap.serve(&Call::Free { addr: 12288 }) == Reply::NotLive);
+        assert!(rt; heap.serve(&Call::Free { addr: 8192 }) == Reply::Done);
+        let image = heap.close();
+        assert!(rt; image.limits == ONE_SEGMENT);
+        Ok(())
+    }
+}

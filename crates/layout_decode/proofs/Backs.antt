@@ -1,5 +1,5 @@
 -- On the runs of the back end among runs that tile pages.
-use Rattle.std.proofs.Common.{◌≡◌, ℕ, ◌+◌, ◌-◌, ◌*◌, ◌/◌, ◌<◌, ◌≤◌, Bool, true, false, ◌&&◌, not, List, [], ◌∷◌, length, map, Option, Some, None, refl, sym, ap, subst, ◌∙◌, arith, leb, inl, inr, sum_by}
+use Rattle.std.proofs.Common.{◌≡◌, ℕ, ◌+◌, ◌*◌, ◌<◌, ◌≤◌, Bool, true, false, not, List, [], ◌∷◌, length, map, Some, None, refl, sym, ap, subst, ◌∙◌, arith, leb, inl, inr}
 use Rattle.std.specs.Prelude.{filter, option_map}
 use Rattle.std.specs.List.{find}
 use Rattle.std.proofs.lemmas.List.Sums.{sum_by-cons}

@@ -1,6 +1,6 @@
 -- The live blocks that the metadata of a heap tells of. So far there are those of the back end: a run of the back end is a block, and the
 -- descriptor of its first page tells how many of its last bytes are not used.
-use Rattle.std.specs.Prelude.{ℕ, ◌+◌, Bool, ◌&&◌, nat_le, List, filter, sum_by, length}
+use Rattle.std.specs.Prelude.{ℕ, Bool, ◌&&◌, nat_le, List, filter, sum_by}
 use Rattle.heap_model.specs.declared.Kind.TheVariants as kinds
 use Rattle.heap_model.specs.declared.Block.{Block}
 use Rattle.heap_model.specs.declared.Run.{Run}

@@ -1,17 +1,14 @@
 -- When an image shows a state.
-use Rattle.std.specs.Prelude.{◌≡◌, ℕ, ◌*◌, ◌-◌, Bool, true, List, [], ◌∷◌, filter, map, option_and_then, unwrap_or}
-use Rattle.std.specs.List.{AllByRecursion, find, list_all}
+use Rattle.std.specs.Prelude.{◌≡◌, ℕ, ◌*◌, ◌-◌, List, map, option_and_then, unwrap_or}
+use Rattle.std.specs.List.{find}
 use Rattle.heap_model.specs.declared.Kind.{Kind}
 use Rattle.heap_model.specs.declared.Kind.TheVariants as kinds
-use Rattle.heap_model.specs.declared.Layer.TheVariants as layers
 use Rattle.heap_model.specs.declared.Limits.{Limits}
-use Rattle.heap_model.specs.declared.Mark.{Mark}
 use Rattle.heap_model.specs.declared.Run.{Run}
-use Rattle.heap_model.specs.declared.What.TheVariants as whats
 use Rattle.heap_model.specs.Geometry.{page_bytes}
-use Rattle.heap_model.specs.State.{Setting, State, Area, Span, Place, live_size, has_address, is_kind}
+use Rattle.heap_model.specs.State.{State, Span, Place, live_size, has_address}
 use Rattle.heap_model.specs.Backend.{free_runs}
-use Rattle.page_region.specs.Held.{Held, committed_of}
+use Rattle.page_region.specs.Held.{committed_of}
 use Rattle.page_ranges.specs.Words.{runs_of}
 use Rattle.page_ranges.specs.Ranges.{IsWhole}
 use Rattle.page_ranges.specs.Spans.{taken_runs, frees_in}

@@ -1,4 +1,4 @@
-// An image written by hand, and the blocks that it tells of.
+// An image written by hand, and the block that it tells of.
 ghost use Rattle.std.specs.Prelude.{IfOk};
 ghost use Rattle.page_ranges.specs.Ranges.{IsWhole};
 
@@ -31,17 +31,15 @@ const BLOCK: Mark = Mark {
     unused: 4095,
 };
 
-/// Blocks at pages 2 and 135, with 100 free pages between them.
-fn two_blocks(alloc: Global) -> Result<Image, OutOfMemory>
-    ensures { IfOk result (λ image. IsWhole image.descs) }
+/// One segment, with one block on the pages behind its header.
+fn one_block(alloc: Global) -> Result<Image, OutOfMemory>
+    ensures whole { IfOk result (λ image. IsWhole image.descs) }
 {
     let region = Region::new(alloc, &ONE_SEGMENT)?;
     let mut descs = Descs::new(alloc, &ONE_SEGMENT)?;
     descs.open_segment(0);
     descs.mark(2, 33, BLOCK);
-    descs.mark(35, 100, FREE);
-    descs.mark(135, 33, BLOCK);
-    descs.mark(168, 88, FREE);
+    descs.mark(35, 221, FREE);
     Ok(Image {
         limits: ONE_SEGMENT,
         region,
@@ -50,17 +48,16 @@ fn two_blocks(alloc: Global) -> Result<Image, OutOfMemory>
 }
 
 #[test]
-fn reads_two_blocks(rt: HostRuntime) -> Result<(), Fail> {
-    let image = two_blocks(rt.alloc())?;
-    let block = |addr| Block {
-        addr,
+fn reads_one_block(rt: HostRuntime) -> Result<(), Fail> {
+    let image = one_block(rt.alloc())?;
+    let block = Block {
+        addr: 8192,
         size: 131_073,
         layer: Layer::Back,
     };
-    assert!(rt; next_block(&image, 0) == Some(block(8192)));
-    assert!(rt; next_block(&image, 8192) == Some(block(8192)));
-    assert!(rt; next_block(&image, 8193) == Some(block(552_960)));
-    assert!(rt; next_block(&image, 552_961) == None);
-    assert!(rt; count_blocks(&image) == (2, 262_146));
+    assert!(rt; next_block(&image, 0) == Some(block));
+    assert!(rt; next_block(&image, 8192) == Some(block));
+    assert!(rt; next_block(&image, 8193) == None);
+    assert!(rt; count_blocks(&image) == (1, 131_073));
     Ok(())
 }

@@ -1,13 +1,14 @@
 -- What the rest of the replies gives, put behind what stands, is what all of them give.
-use Rattle.std.proofs.Common.{◌≡◌, ℕ, zero, suc, ◌+◌, ◌-◌, ◌<◌, ◌≤◌, Bool, true, false, if◌then◌else◌, List, [], ◌∷◌, ◌++◌, length, drop, get_or, Option, Some, None, option_map, refl, sym, ap, ◌∙◌, arith, append_assoc, append-nil, length-append}
+use Rattle.std.proofs.Common.{◌≡◌, ℕ, zero, suc, ◌+◌, ◌-◌, ◌<◌, ◌≤◌, Bool, true, false, if◌then◌else◌, List, [], ◌∷◌, ◌++◌, length, drop, get_or, Some, None, option_map, refl, sym, ap, ◌∙◌, arith, append_assoc, append-nil, length-append, map}
 use Rattle.std.specs.Prelude.{slice_set}
 use Rattle.std.specs.List.{slice_get}
 use Rattle.std.proofs.lemmas.List.{drop_all}
-use Rattle.std.proofs.lemmas.Option.{slice_get-map, slice_get-get_or}
+use Rattle.std.proofs.lemmas.Option.{slice_get-map, slice_get-get_or, slice_get_read, slice_get_past}
 use Rattle.heap_model.specs.declared.Reply.{Reply}
 use Rattle.script_text.specs.declared.commands.Command.{Command}
+use Rattle.script_text.specs.declared.commands.CommandLine.{CommandLine}
 use Rattle.script_text.specs.ThreadLines.{ThreadLines, ScriptLines}
-use Rattle.script_text.specs.Scripts.{command_of, commands_of, command_at, round_at, thread_at, no_thread}
+use Rattle.script_text.specs.Scripts.{command_of, commands_of, round_at, thread_at, no_thread}
 use Rattle.report_text.specs.Commands.{round_commands, thread_commands}
 use Rattle.report_text.specs.Report.{reply_line, is_seen, thread_lines, round_lines, script_lines}
 
@@ -62,9 +63,12 @@ commands_end i j k n cs rs old whole e w = put_all old _ whole (ap (λ (xs : Lis
 pub replies_end : (i j k n : ℕ) (cs : List Command) (rs : List Reply) (old whole : List ℕ) → length rs ≤ n → old ++ thread_lines i j (drop k cs) (drop n rs) ≡ whole → old ≡ whole
 replies_end i j k n cs rs old whole l w = put_all old _ whole (ap (thread_lines i j (drop k cs)) (drop_all n rs l) ∙ no_replies i j (drop k cs)) w
 
--- a command that a script gives
-pub command_got : (s : ScriptLines) (i j k : ℕ) (c : Option Command) → c ≡ command_at s i j k → slice_get (thread_commands (thread_at s i j)) k ≡ c
-command_got s i j k c e = slice_get-map command_of (thread_at s i j).commands k ∙ sym e
+-- a command of a line
+pub command_got : (lines : List CommandLine) (k : ℕ) (line : CommandLine) → k < length lines → line ≡ get_or lines k line → slice_get (map command_of lines) k ≡ Some line.command
+command_got lines k line l e = slice_get-map command_of lines k ∙ ap (option_map command_of) (slice_get_read lines (length lines) k line refl l e)
+
+pub no_command : (lines : List CommandLine) (k : ℕ) → length lines ≤ k → slice_get (map command_of lines) k ≡ None
+no_command lines k l = slice_get-map command_of lines k ∙ ap (option_map command_of) (slice_get_past lines k l)
 
 ---- A round
 
@@ -95,12 +99,7 @@ pub threads_end : (s : ScriptLines) (i j : ℕ) (rss : List (List Reply)) (old w
     old ++ round_lines i j (drop j (round_commands (round_at s i))) (drop j rss) ≡ whole → old ≡ whole
 threads_end s i j rss old whole l w =
     let css = round_commands (round_at s i) in
-    put_all old _ whole (ap (λ (xs : List (List Command)). round_lines i j xs (drop j rss)) (drop_past css j (slice_get-map thread_commands (round_at s i) j ∙ ap (option_map thread_commands) (past (round_at s i) j l))) ∙ no_threads i j (drop j rss)) w
-  where
-    past : (xs : List ThreadLines) (n : ℕ) → length xs ≤ n → slice_get xs n ≡ None
-    past [] n l = refl
-    past (x ∷ xs) zero l = absurd (omega arith)
-    past (x ∷ xs) (suc n) l = past xs n (omega arith)
+    put_all old _ whole (ap (λ (xs : List (List Command)). round_lines i j xs (drop j rss)) (drop_past css j (slice_get-map thread_commands (round_at s i) j ∙ ap (option_map thread_commands) (slice_get_past (round_at s i) j l))) ∙ no_threads i j (drop j rss)) w
 
 pub answered_end : (i j n : ℕ) (css : List (List Command)) (rss : List (List Reply)) (old whole : List ℕ) → length rss ≤ n → old ++ round_lines i j css (drop n rss) ≡ whole → old ≡ whole
 answered_end i j n css rss old whole l w = put_all old _ whole (ap (round_lines i j css) (drop_all n rss l) ∙ none_answered i j css) w
@@ -131,12 +130,7 @@ no_answers i (cs ∷ css) = refl
 
 pub rounds_end : (s : ScriptLines) (i : ℕ) (rss : List (List (List Reply))) (old whole : List ℕ) → length s.rounds ≤ i → old ++ script_lines i (drop i (commands_of s)) (drop i rss) ≡ whole → old ≡ whole
 rounds_end s i rss old whole l w =
-    put_all old _ whole (ap (λ (xs : List (List (List Command))). script_lines i xs (drop i rss)) (drop_past (commands_of s) i (slice_get-map round_commands s.rounds i ∙ ap (option_map round_commands) (past s.rounds i l))) ∙ no_rounds i (drop i rss)) w
-  where
-    past : (xs : List (List ThreadLines)) (n : ℕ) → length xs ≤ n → slice_get xs n ≡ None
-    past [] n l = refl
-    past (x ∷ xs) zero l = absurd (omega arith)
-    past (x ∷ xs) (suc n) l = past xs n (omega arith)
+    put_all old _ whole (ap (λ (xs : List (List (List Command))). script_lines i xs (drop i rss)) (drop_past (commands_of s) i (slice_get-map round_commands s.rounds i ∙ ap (option_map round_commands) (slice_get_past s.rounds i l))) ∙ no_rounds i (drop i rss)) w
 
 pub answers_end : (i n : ℕ) (css : List (List (List Command))) (rss : List (List (List Reply))) (old whole : List ℕ) → length rss ≤ n → old ++ script_lines i css (drop n rss) ≡ whole → old ≡ whole
 answers_end i n css rss old whole l w = put_all old _ whole (ap (script_lines i css) (drop_all n rss l) ∙ no_answers i css) w

@@ -1,13 +1,13 @@
 // The lines of replies: by round, then thread, then command.
-ghost use Rattle.std.specs.Prelude.{◌≡◌, ◌+◌, ◌<◌, ◌++◌, length, OnOk, IfOk, string_bytes, if◌then◌else◌};
-ghost use Rattle.script_text.specs.Scripts.{commands_of, round_at, thread_at};
+ghost use Rattle.std.specs.Prelude.{◌≡◌, ◌+◌, ◌<◌, ◌++◌, length, ◌^◌, map, OnOk, string_bytes, if◌then◌else◌};
+ghost use Rattle.script_text.specs.Scripts.{commands_of, command_of, round_at};
 ghost use Rattle.report_text.specs.Report.{script_lines, round_lines, thread_lines, reply_line, is_seen};
-ghost use Rattle.report_text.specs.Commands.{round_commands, thread_commands};
+ghost use Rattle.report_text.specs.Commands.{round_commands};
 
 use crate::answers::{RoundAnswers, ThreadAnswers};
 use crate::words::{push_reply, push_word, word_of_command};
 use heap_model::{OutOfMemory, Reply};
-use script_text::{Command, Script};
+use script_text::{Command, CommandLine, Script};
 use std::alloc::AllocError;
 
 pub fn push_rounds(
@@ -42,30 +42,29 @@ fn push_threads(
         if thread >= count as usize {
             return Ok(());
         }
-        push_thread(text, script, round, thread as u32, answers.replies())?;
+        let commands = script.commands(round, thread as u32);
+        push_thread(text, round, thread as u32, commands, answers.replies())?;
     }
     Ok(())
 }
 
 fn push_thread(
     text: &mut String,
-    script: &Script,
     round: u32,
     thread: u32,
+    commands: &[CommandLine],
     replies: &[Reply],
-) -> Result<(), OutOfMemory>
-    requires round { round < length script.now.rounds }
-    requires thread { thread < length (round_at script.now round) }
+) -> Result<(), AllocError>
     ensures { OnOk result (string_bytes text.new
-        ≡ string_bytes text.old ++ thread_lines round thread (thread_commands (thread_at script.now round thread)) replies.now) }
+        ≡ string_bytes text.old ++ thread_lines round thread (map command_of commands.now) replies.now) }
 {
     let mut k = 0;
     for reply in replies {
-        let Some(command) = script.command(round, thread, k) else {
+        let Some(line) = commands.get(k) else {
             return Ok(());
         };
-        push_line(text, round, thread, command, *reply)?;
-        k = number_after(k, *reply)?;
+        push_line(text, round, thread, line.command, *reply)?;
+        k = number_after(k, *reply);
     }
     Ok(())
 }
@@ -88,13 +87,13 @@ fn push_line(
     text.push_str("\n")
 }
 
-/// The number of the command that the next reply belongs to. A block that a walk has seen is not the last reply to the walk. A
-/// script of at most 1,048,576 bytes has fewer commands than a `u32` counts, so the count never ends.
-fn number_after(k: u32, reply: Reply) -> Result<u32, OutOfMemory>
-    ensures { IfOk result (λ next. next ≡ (if is_seen reply then k else k + 1)) }
+/// The number of the command that the next reply belongs to. A block that a walk has seen is not the last reply to the walk.
+fn number_after(k: usize, reply: Reply) -> usize
+    requires { k + 1 < 2 ^ 64 }
+    ensures { result ≡ (if is_seen reply then k else k + 1) }
 {
     match reply {
-        Reply::Seen(_) => Ok(k),
-        _ => k.checked_add(1).ok_or(OutOfMemory),
+        Reply::Seen(_) => k,
+        _ => k + 1,
     }
 }

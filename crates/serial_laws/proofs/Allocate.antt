@@ -1,5 +1,5 @@
 -- An allocation by the back end, from a configuration at rest.
-use Rattle.std.proofs.Common.{◌≡◌, ℕ, ◌+◌, ◌*◌, ◌/◌, ◌<◌, Bool, true, false, ◌&&◌, ◌||◌, List, [], ◌∷◌, ◌++◌, Option, Some, None, refl, sym, ap, subst, ◌∙◌, arith, eqb, leb, ltb, inl, inr}
+use Rattle.std.proofs.Common.{◌≡◌, ℕ, ◌+◌, ◌*◌, ◌/◌, ◌<◌, Bool, true, ◌&&◌, ◌||◌, List, [], ◌∷◌, ◌++◌, Option, Some, None, refl, sym, ap, subst, ◌∙◌, arith, eqb, leb, ltb, inl, inr}
 use Rattle.std.specs.List.{find, list_any, list_all}
 use Rattle.std.proofs.lemmas.Bool.{cases_Bool, and_from, lt-ltb, le-leb, eq-eqb, or_left, or_right, leb-false, false≢true}
 use Rattle.heap_model.specs.declared.Call.TheVariants as calls
@@ -11,15 +11,14 @@ use Rattle.heap_model.specs.declared.Layer.{Layer}
 use Rattle.heap_model.specs.declared.Layer.TheVariants as layers
 use Rattle.heap_model.specs.declared.What.TheVariants as whats
 use Rattle.heap_model.specs.Geometry.{Route, Small, Variable, Paged, Huge, pages_of, route_of, is_paged}
-use Rattle.heap_model.specs.State.{Setting, Area, BackPart, VsPart, Span, Place, Live, InHand, has_address, in_hand, hand_at, hands, is_hand_at, insert_span, change_found}
+use Rattle.heap_model.specs.State.{Setting, Area, BackPart, VsPart, Span, Place, Live, InHand, has_address, in_hand, hands, is_hand_at, insert_span, change_found}
 use Rattle.heap_model.specs.Backend.{back_place, free_runs}
 use Rattle.heap_model.specs.Ranges.{is_of_kind}
 use Rattle.heap_model.specs.Stay.{is_some_of}
 use Rattle.heap_model.specs.CallState.{Configuration, CallState, SpanHistory}
-use Rattle.heap_model.specs.Legal.{may_follow, after, lies_in, has_place, are_used, is_empty, with_status, with_span, on, layer_of, leaves_whole, is_run_of}
-use Rattle.heap_model.specs.Alone.{at_rest, by_zero, configuration_by, may_all_come}
-use Rattle.serial_laws.specs.OneCall.{IsAtRest, Completes}
-use Rattle.serial_laws.specs.BackCalls.{plain, block_span, block_place, one_more_reserved, OnlyBack, Ends, AllocationEnds, ReservingEnds, RefusalEnds}
+use Rattle.heap_model.specs.Legal.{may_follow, after, lies_in, has_place, are_used, is_empty, with_status, with_span, on, layer_of, is_run_of}
+use Rattle.heap_model.specs.Alone.{at_rest, by_zero, may_all_come}
+use Rattle.serial_laws.specs.BackCalls.{plain, block_span, block_place, one_more_reserved, Ends, AllocationEnds, ReservingEnds, RefusalEnds}
 use Rattle.serial_laws.proofs.Places.{all_inserted}
 
 ---- Rows

@@ -1,22 +1,19 @@
 -- A free and a question for the size, from a configuration at rest.
-use Rattle.std.proofs.Common.{◌≡◌, ℕ, ◌+◌, ◌*◌, ◌/◌, ◌<◌, Bool, true, false, ◌&&◌, ◌||◌, not, List, [], ◌∷◌, ◌++◌, Option, Some, None, refl, sym, ap, subst, ◌∙◌, arith, eqb, inl, inr}
-use Rattle.std.specs.List.{find, list_any, list_all}
-use Rattle.std.proofs.lemmas.Bool.{cases_Bool, and_from, and_parts, lt-ltb, eq-eqb, false≢true}
+use Rattle.std.proofs.Common.{◌≡◌, ℕ, ◌/◌, ◌<◌, Bool, true, false, ◌&&◌, not, List, [], ◌∷◌, ◌++◌, Option, Some, refl, sym, ap, subst, ◌∙◌, inl, inr}
+use Rattle.std.specs.List.{find}
+use Rattle.std.proofs.lemmas.Bool.{cases_Bool, eq-eqb}
 use Rattle.heap_model.specs.declared.Call.TheVariants as calls
-use Rattle.heap_model.specs.declared.Act.{Act}
 use Rattle.heap_model.specs.declared.Act.TheVariants as acts
 use Rattle.heap_model.specs.declared.Reply.TheVariants as replies
 use Rattle.heap_model.specs.declared.Kind.TheVariants as kinds
-use Rattle.heap_model.specs.declared.Layer.{Layer}
 use Rattle.heap_model.specs.declared.Layer.TheVariants as layers
 use Rattle.heap_model.specs.declared.What.TheVariants as whats
-use Rattle.heap_model.specs.State.{Setting, State, Area, BackPart, VsPart, Span, Place, Live, InHand, has_address, in_hand, hands, hand_at, is_hand_at, is_live_at, change_found, remove_found, is_in_hand_of}
+use Rattle.heap_model.specs.State.{Setting, BackPart, VsPart, Span, Place, InHand, has_address, in_hand, hands, is_hand_at, is_live_at, change_found, remove_found, is_in_hand_of}
 use Rattle.heap_model.specs.CallState.{Configuration, CallState, SpanHistory}
-use Rattle.heap_model.specs.Search.{begins_at, span_at}
-use Rattle.heap_model.specs.Legal.{may_follow, after, has_place, are_used, is_empty, with_status, on, layer_of, leaves_whole, has_live}
-use Rattle.heap_model.specs.Alone.{at_rest, by_zero, configuration_by, may_all_come}
-use Rattle.serial_laws.specs.OneCall.{IsAtRest, Completes}
-use Rattle.serial_laws.specs.BackCalls.{OnlyBack, Ends, live_place, area_without, places_without, FreeEnds, SizeEnds, IsNotLive, NotLiveEnds}
+use Rattle.heap_model.specs.Search.{span_at}
+use Rattle.heap_model.specs.Legal.{after, has_place, are_used, is_empty, with_status, has_live}
+use Rattle.heap_model.specs.Alone.{at_rest, by_zero}
+use Rattle.serial_laws.specs.BackCalls.{Ends, live_place, area_without, places_without, FreeEnds, SizeEnds, IsNotLive, NotLiveEnds}
 use Rattle.serial_laws.proofs.Allocate.{come, begins, empty_parts}
 
 ---- The place that is found, taken and dropped
@@ -248,6 +245,7 @@ sizes s m a granules size room r h =
 pub not_live : NotLiveEnds
 not_live s m a room r h =
     let F : Configuration → Type 0 = λ m. Ends s m (calls.Free a) replies.NotLive m.state.back.area m.state.back.places in
-    let S : Configuration → Type 0 = λ m. Ends s m (calls.Size a) replies.NotLive m.state.back.area m.state.back.places in
-    (subst F (sym r.rest) (frees_none s m.state.back m.state.vs m.state.lfh m.state.large m.state.words m.now.calls m.now.disturbed m.now.span_history room r.hands r.whole a h),
-    subst S (sym r.rest) (sizes_none s m.state.back m.state.vs m.state.lfh m.state.large m.state.words m.now.calls m.now.disturbed m.now.span_history room r.hands r.whole a h))
+    let S : Configuration → Type 0 = λ m. Ends s m (calls.Size a) replies.NotLive m.state.back.area m.state.back.places in (
+      subst F (sym r.rest) (frees_none s m.state.back m.state.vs m.state.lfh m.state.large m.state.words m.now.calls m.now.disturbed m.now.span_history room r.hands r.whole a h),
+      subst S (sym r.rest) (sizes_none s m.state.back m.state.vs m.state.lfh m.state.large m.state.words m.now.calls m.now.disturbed m.now.span_history room r.hands r.whole a h),
+    )

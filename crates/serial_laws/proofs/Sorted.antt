@@ -1,7 +1,7 @@
 -- Places in the order of their addresses.
-use Rattle.std.proofs.Common.{◌≡◌, ℕ, ◌+◌, ◌<◌, ◌≤◌, Bool, true, false, ◌||◌, List, [], ◌∷◌, Option, Some, None, refl, sym, ap, ◌∙◌, arith, ltb, inl, inr}
+use Rattle.std.proofs.Common.{◌≡◌, ℕ, ◌<◌, ◌≤◌, Bool, true, false, ◌||◌, List, [], ◌∷◌, None, refl, sym, ap, ◌∙◌, arith, ltb, inl, inr}
 use Rattle.std.specs.List.{find, list_any}
-use Rattle.std.proofs.lemmas.Bool.{cases_Bool, lt-ltb, le-ltb, ltb-true, ltb-false}
+use Rattle.std.proofs.lemmas.Bool.{cases_Bool, lt-ltb, ltb-true, ltb-false}
 use Rattle.heap_model.specs.State.{Place, insert_place, by_address, remove_found}
 
 -- the first of the places, if there is one, does not begin before an address
@@ -71,11 +71,13 @@ one_inserted test p (q ∷ qs) h = go (one_inserted test p qs) (ltb p.start q.st
     go again false e k =
         let k1 : OnlyOne test (q ∷ insert_place p qs) = rw e at k in
         let rest = again k1.1 in
-        let other : test q ≡ true → (test p || list_any test qs) ≡ false = λ t. sym (any_inserted test p qs) ∙ k1.0 t in
-        (λ t. elim (cases_Bool (test q)) [
-          | inl f ↦ let z = (or_false (test p) (list_any test qs) (other f)).0 in absurd (let y : true ≡ false = sym t ∙ z in let x : ⊥ = cc in x)
-          | inr f ↦ rw f (rest.0 t)
-        ], (λ t. (or_false (test p) (list_any test qs) (other t)).1, rest.1))
+        let other : test q ≡ true → (test p || list_any test qs) ≡ false = λ t. sym (any_inserted test p qs) ∙ k1.0 t in (
+          λ t. elim (cases_Bool (test q)) [
+            | inl f ↦ let z = (or_false (test p) (list_any test qs) (other f)).0 in absurd (let y : true ≡ false = sym t ∙ z in let x : ⊥ = cc in x)
+            | inr f ↦ rw f (rest.0 t)
+          ],
+          (λ t. (or_false (test p) (list_any test qs) (other t)).1, rest.1),
+        )
 
 -- so what is found does not depend on the order
 found_inserted : (test : Place → Bool) (p : Place) (ps : List Place) → OnlyOne test (insert_place p ps) → find test (insert_place p ps) ≡ find test (p ∷ ps)

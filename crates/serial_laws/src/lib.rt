@@ -7,41 +7,34 @@ ghost use Rattle.serial_laws.specs.BackCalls.{AllocationEnds, ReservingEnds, Ref
 /// Calls that each complete from where the one before ended make up one legal history of caller 0 alone.
 pub fn in_turn_is_serial()
     ensures { InTurnIsSerial }
-{
-}
+{}
 
 /// An allocation by the back end, where its place lies in a reserved segment.
 pub fn allocation_ends()
     ensures { AllocationEnds }
-{
-}
+{}
 
 /// An allocation by the back end for which the next segment is reserved.
 pub fn reserving_ends()
     ensures { ReservingEnds }
-{
-}
+{}
 
 /// An allocation for which no range fits.
 pub fn refusal_ends()
     ensures { RefusalEnds }
-{
-}
+{}
 
 /// A free of a block of the back end.
 pub fn free_ends()
     ensures { FreeEnds }
-{
-}
+{}
 
 /// A question for the size of a block of the back end.
 pub fn size_ends()
     ensures { SizeEnds }
-{
-}
+{}
 
 /// A free, or a question for the size, at an address where no block lives.
 pub fn not_live_ends()
     ensures { NotLiveEnds }
-{
-}
+{}

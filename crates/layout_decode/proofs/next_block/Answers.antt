@@ -1,6 +1,5 @@
-use Rattle.std.proofs.Common.{◌≡◌, ℕ, ◌*◌, ◌+◌, ◌<◌, ◌≤◌, ◌∙◌, length, arith, sym, ap, Some, None, Option}
+use Rattle.std.proofs.Common.{◌*◌, ◌+◌, ◌<◌, ◌≤◌, ◌∙◌, length, arith, sym, ap, Some}
 use Rattle.std.specs.Prelude.{option_map}
-use Rattle.heap_model.specs.declared.Run.{Run}
 use Rattle.heap_model.specs.Geometry.{page_bytes}
 use Rattle.page_ranges.specs.Words.{runs_of}
 use Rattle.page_ranges.specs.Spans.{block_of}

@@ -1,4 +1,4 @@
-use Rattle.std.proofs.Common.{◌≡◌, ℕ, ◌*◌, ◌∙◌, List, length, sym, ap, subst}
+use Rattle.std.proofs.Common.{ℕ, ◌*◌, ◌∙◌, List, length, sym, ap, subst}
 use Rattle.page_region.specs.Held.{Held}
 use Rattle.page_ranges.specs.Ranges.{IsWhole}
 use Rattle.layout_decode.specs.Decode.{decode}

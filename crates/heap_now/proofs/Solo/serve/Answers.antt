@@ -1,4 +1,3 @@
-use Rattle.std.proofs.Common.{◌≡◌, sym}
 use Rattle.heap_now.proofs.Calls.{alloc_call, free_call, size_call}
 use Rattle.heap_now.proofs.Solo.serve.Goals as goal
 

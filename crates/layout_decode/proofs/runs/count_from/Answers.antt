@@ -1,4 +1,4 @@
-use Rattle.std.proofs.Common.{◌≡◌, ℕ, ◌*◌, ◌+◌, ◌-◌, ◌<◌, ◌≤◌, ◌∙◌, List, [], ◌∷◌, length, arith, sym, ap, Some, None}
+use Rattle.std.proofs.Common.{◌≡◌, ◌+◌, ◌∙◌, ◌∷◌, length, arith, sym, ap}
 use Rattle.heap_model.specs.declared.Run.{Run}
 use Rattle.heap_model.specs.Geometry.{page_bytes}
 use Rattle.page_ranges.specs.Words.{runs_of}
@@ -8,7 +8,7 @@ use Rattle.std.proofs.lemmas.List.{length-map}
 use Rattle.heap_model.specs.State.{is_kind}
 use Rattle.heap_model.specs.declared.Kind.TheVariants as kinds
 use Rattle.layout_decode.specs.Decode.{decode, total_of, backs_from}
-use Rattle.layout_decode.proofs.Backs.{BackStep, back_step, not_found, beyond, bounds, bytes_of, bytes-cons, all_backs}
+use Rattle.layout_decode.proofs.Backs.{back_step, not_found, beyond, bounds, bytes_of, bytes-cons, all_backs}
 use Rattle.layout_decode.proofs.runs.count_from.Goals as goal
 
 pub overflow_add-blocks : goal.overflow_add-blocks

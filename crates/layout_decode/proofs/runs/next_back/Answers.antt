@@ -1,7 +1,7 @@
-use Rattle.std.proofs.Common.{◌≡◌, ◌+◌, ◌-◌, ◌<◌, ◌≤◌, ◌∙◌, true, false, Fits, w32, length, arith, sym, Some, None}
+use Rattle.std.proofs.Common.{◌∙◌, length, arith, sym}
 use Rattle.page_ranges.specs.Words.{runs_of}
 use Rattle.layout_decode.specs.Decode.{is_back_from}
-use Rattle.layout_decode.proofs.Backs.{step, none_from, beyond, found_same, first_picked, none_picked}
+use Rattle.layout_decode.proofs.Backs.{step, none_from, beyond, first_picked, none_picked}
 use Rattle.layout_decode.proofs.runs.next_back.Goals as goal
 
 pub returns-in_default : goal.returns-in_default

@@ -1,4 +1,4 @@
-use Rattle.std.proofs.Common.{◌≡◌, ◌≤◌, ◌-◌, length}
+use Rattle.std.proofs.Common.{◌≡◌, ◌-◌, length}
 use Rattle.page_ranges.specs.Words.{runs_of}
 use Rattle.layout_decode.specs.Decode.{backs_from}
 use Rattle.layout_decode.proofs.runs.next_back.Given as goal

@@ -1,7 +1,8 @@
-use Rattle.std.proofs.Common.{◌≡◌, ◌++◌, ◌∙◌, List, length, arith, refl, string_bytes, ap}
+use Rattle.std.proofs.Common.{◌≡◌, ◌++◌, ◌∙◌, List, length, map, arith, refl, string_bytes, ap}
 use Rattle.std.proofs.lemmas.Option.{slice_get_read}
 use Rattle.heap_model.specs.declared.Reply.{Reply}
-use Rattle.script_text.specs.Scripts.{thread_at}
+use Rattle.script_text.specs.declared.commands.CommandLine.{CommandLine}
+use Rattle.script_text.specs.Scripts.{command_of, thread_at}
 use Rattle.report_text.specs.Commands.{thread_commands}
 use Rattle.report_text.specs.Report.{thread_lines}
 use Rattle.report_text.proofs.ReplyLemmas.{thread_put, answered_end}
@@ -10,7 +11,9 @@ use Rattle.report_text.proofs.replies.push_threads.Goals as goal
 pub loop-thread-preserved : goal.loop-thread-preserved
 loop-thread-preserved c =
     let lines : string_bytes c.push_thread.new.text ≡ string_bytes c.loop-thread.text ++ thread_lines c.args.round c.loop-thread.thread (thread_commands (thread_at c.args.script.now c.args.round c.loop-thread.thread)) c.index-threads-thread.result =
-    c.in_ok-push_thread.ensures ∙ ap (λ (rs : List Reply). string_bytes c.loop-thread.text ++ thread_lines c.args.round c.loop-thread.thread (thread_commands (thread_at c.args.script.now c.args.round c.loop-thread.thread)) rs) c.replies.ensures in
+    c.in_ok-push_thread.ensures
+    ∙ ap (λ (xs : List CommandLine). string_bytes c.loop-thread.text ++ thread_lines c.args.round c.loop-thread.thread (map command_of xs) c.replies.result.now) c.commands-commands.ensures
+    ∙ ap (λ (rs : List Reply). string_bytes c.loop-thread.text ++ thread_lines c.args.round c.loop-thread.thread (thread_commands (thread_at c.args.script.now c.args.round c.loop-thread.thread)) rs) c.replies.ensures in
     thread_put c.args.script.now c.args.round c.loop-thread.thread c.args.threads.now c.index-threads-thread.result _ _ _
     (omega (arith, c.if-thread-count.false, c.threads-count.ensures))
     (slice_get_read c.args.threads.now (length c.args.threads.now) c.loop-thread.thread c.index-threads-thread.result refl c.loop-thread-test.true c.index-threads-thread.is)

@@ -1,0 +1,67 @@
+-- On the elements of lists that are put together, mapped and sorted.
+use Rattle.std.proofs.Common.{◌≡◌, Bool, true, List, [], ◌∷◌, ◌++◌, map, Option, Some, None, refl, sym, ap, ◌∙◌, subst, ltb, inl, inr, ◌⊎◌}
+use Rattle.std.specs.Prelude.{filter, filter_map}
+use Rattle.std.specs.List.{AllByRecursion, cons_option}
+use Rattle.std.proofs.lemmas.Bool.{cases_Bool}
+use Rattle.heap_model.specs.State.{Place, insert_place, by_address}
+use Rattle.heap_soundness.specs.Sound.{IsOneOf}
+
+pub in_parts : {A : Type 0} (x : A) (xs ys : List A) → IsOneOf x (xs ++ ys) → IsOneOf x xs ⊎ IsOneOf x ys
+in_parts x [] ys i = inr i
+in_parts x (y ∷ xs) ys (inl e) = inl (inl e)
+in_parts x (y ∷ xs) ys (inr i) = elim (in_parts x xs ys i) [ inl j ↦ inl (inr j) | inr j ↦ inr j ]
+
+pub in_left : {A : Type 0} (x : A) (xs ys : List A) → IsOneOf x xs → IsOneOf x (xs ++ ys)
+in_left x [] ys i = absurd i
+in_left x (y ∷ xs) ys (inl e) = inl e
+in_left x (y ∷ xs) ys (inr i) = inr (in_left x xs ys i)
+
+pub in_right : {A : Type 0} (x : A) (xs ys : List A) → IsOneOf x ys → IsOneOf x (xs ++ ys)
+in_right x [] ys i = i
+in_right x (y ∷ xs) ys i = inr (in_right x xs ys i)
+
+pub in_mapped : {A B : Type 0} (f : A → B) (x : A) (xs : List A) → IsOneOf x xs → IsOneOf (f x) (map f xs)
+in_mapped f x [] i = absurd i
+in_mapped f x (y ∷ xs) (inl e) = inl (ap f e)
+in_mapped f x (y ∷ xs) (inr i) = inr (in_mapped f x xs i)
+
+pub from_mapped : {A B : Type 0} (f : A → B) (xs : List A) (y : B) → IsOneOf y (map f xs) → (x : A) × IsOneOf x xs × (f x ≡ y)
+from_mapped f [] y i = absurd i
+from_mapped f (x ∷ xs) y (inl e) = (x, inl refl, e)
+from_mapped f (x ∷ xs) y (inr i) = let r = from_mapped f xs y i in (r.0, inr r.1, r.2)
+
+in_cons : {A : Type 0} (o : Option A) (y : A) (ys : List A) → IsOneOf y ys → IsOneOf y (cons_option o ys)
+in_cons None y ys i = i
+in_cons (Some x) y ys i = inr i
+
+here_cons : {A : Type 0} (o : Option A) (y : A) (ys : List A) → o ≡ Some y → IsOneOf y (cons_option o ys)
+here_cons None y ys e = absurd (let z : ⊥ = cc in z)
+here_cons (Some x) y ys e = inl (let same : x ≡ y = cc in same)
+
+pub in_chosen : {A B : Type 0} (f : A → Option B) (x : A) (y : B) (xs : List A) → f x ≡ Some y → IsOneOf x xs → IsOneOf y (filter_map f xs)
+in_chosen f x y [] e i = absurd i
+in_chosen {A = A} f x y (z ∷ xs) e (inl h) = here_cons (f z) y (filter_map f xs) (ap f h ∙ e)
+in_chosen f x y (z ∷ xs) e (inr i) = in_cons (f z) y (filter_map f xs) (in_chosen f x y xs e i)
+
+in_inserted : (p q : Place) (ps : List Place) → IsOneOf q ps → IsOneOf q (insert_place p ps)
+in_inserted p q [] i = absurd i
+in_inserted p q (r ∷ rs) (inl f) = elim (cases_Bool (ltb p.start r.start)) [ inl e ↦ rw e (inr (inl f)) | inr e ↦ rw e (inl f) ]
+in_inserted p q (r ∷ rs) (inr j) = elim (cases_Bool (ltb p.start r.start)) [ inl e ↦ rw e (inr (inr j)) | inr e ↦ rw e (inr (in_inserted p q rs j)) ]
+
+here_inserted : (p : Place) (ps : List Place) → IsOneOf p (insert_place p ps)
+here_inserted p [] = inl refl
+here_inserted p (r ∷ rs) = elim (cases_Bool (ltb p.start r.start)) [ inl e ↦ rw e (inl refl) | inr e ↦ rw e (inr (here_inserted p rs)) ]
+
+pub in_sorted : (p : Place) (ps : List Place) → IsOneOf p ps → IsOneOf p (by_address ps)
+in_sorted p [] i = absurd i
+in_sorted p (q ∷ qs) (inl e) = subst (λ (r : Place). IsOneOf p (insert_place r (by_address qs))) (sym e) (here_inserted p (by_address qs))
+in_sorted p (q ∷ qs) (inr i) = in_inserted q p (by_address qs) (in_sorted p qs i)
+
+pub all_filtered : {A : Type 0} (P : A → Type 0) (t : A → Bool) (xs : List A) → AllByRecursion P xs → AllByRecursion P (filter t xs)
+all_filtered P t [] a = tt
+all_filtered P t (x ∷ xs) a = elim (cases_Bool (t x)) [ inl e ↦ rw e (a.0, all_filtered P t xs a.1) | inr e ↦ rw e (all_filtered P t xs a.1) ]
+
+-- all pass
+pub filtered_whole : {A : Type 0} (t : A → Bool) (xs : List A) → ((x : A) → IsOneOf x xs → t x ≡ true) → filter t xs ≡ xs
+filtered_whole t [] f = refl
+filtered_whole {A = A} t (x ∷ xs) f = let e = f x (inl refl) in rw e (ap (λ (ys : List A). x ∷ ys) (filtered_whole t xs (λ y i. f y (inr i))))

@@ -1,0 +1,4 @@
+pub mod TableLemmas
+pub mod TileLemmas
+pub mod TiledLemmas
+pub mod RowLemmas

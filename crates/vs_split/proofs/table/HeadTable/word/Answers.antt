@@ -1,0 +1,17 @@
+use Rattle.std.proofs.Common.{◌≡◌, ℕ, get_or, sym, ap, ◌∙◌, arith}
+use denote.Ref.{Bor}
+use Rattle.std.specs.Option.{unwrap_or, option_map}
+use Rattle.vs_split.specs.Chunks.{Chunks, word_at}
+use Rattle.vs_split.proofs.TableLemmas.{word_is}
+use Rattle.vs_split.proofs.table.HeadTable.word.Goals as goal
+
+pub returns : goal.returns
+returns c =
+    let words = c.self.inside.words.items in
+    let read : (d : ℕ) → unwrap_or (option_map (λ (x : Bor ℕ). x.now) c.get.result) d ≡ get_or c.deref.result.now c.args.granule d = c.get.ensures.lookup.4 (omega arith) in
+    c.unwrap_or.ensures
+    ∙ ap (λ o. unwrap_or o 0) c.copied.ensures
+    ∙ read 0
+    ∙ ap (λ l. get_or l c.args.granule 0) c.deref.ensures.value
+    ∙ sym (word_is c.self.inside.key c.self.inside.words.items c.self.inside.starts.items c.self.invariant c.args.granule)
+    ∙ ap (λ (v : Chunks). word_at v c.args.granule) c.self.view_is

@@ -1,0 +1,4 @@
+pub mod Chunks
+pub mod Tiles
+pub mod Table
+pub mod Laws
