@@ -1,1 +1,7 @@
 pub mod FaultLemmas
+pub mod FieldLemmas
+pub mod LineLemmas
+pub mod OwnLemmas
+pub mod StandLemmas
+pub mod RoundLemmas
+pub mod PrintedLemmas
