@@ -37,7 +37,7 @@ AreOwn f count all = (k : ℕ) → k < count → number_of_name all (f k) ≡ k
 
 target_is_field : (f : ℕ → List ℕ) (count : ℕ) → AreValid f count → (t : Target) → Below count (name_in_target t) → TargetFits t → IsField (target_text f t)
 target_is_field f count v (targets.Name k) b h = name_is_field (f k) (v k b.0)
-target_is_field f count v (targets.Addr a) b h = address_is_field a h.0
+target_is_field f count v (targets.Addr a) b h = address_is_field a h
 
 word_is_field : (l : Line) → IsField (line_word l)
 word_is_field lines.Round = (refl, refl)
@@ -119,7 +119,7 @@ target_named name (c ∷ cs) h =
 target_number : (f : ℕ → List ℕ) (count : ℕ) (all : List (List ℕ)) → AreValid f count → AreOwn f count all → (t : Target) → Below count (name_in_target t) → TargetFits t →
     target_field (number_on all (map f (name_in_target t))) (target_text f t) ≡ Ok t
 target_number f count all v o (targets.Name k) b h = target_named (number_of_name all (f k)) (f k) (v k b.0) ∙ ap (λ i. Ok (targets.Name i)) (o k b.0)
-target_number f count all v o (targets.Addr a) b h = let e = decimal_is_read a h.0 in rw e refl
+target_number f count all v o (targets.Addr a) b h = let e = decimal_is_read a h in rw e refl
 
 says : (f : ℕ → List ℕ) (count : ℕ) (all : List (List ℕ)) → AreValid f count → AreOwn f count all → (l : Line) → Below count (names_on l) → LineFits l →
     said (number_on all (map f (names_on l))) (line_word l ∷ line_arguments f l) ≡ Ok (Some l)

@@ -13,7 +13,7 @@ use Rattle.script_text.specs.Names.{name_on, names_in, different}
 use Rattle.script_text.specs.Reading.{lines_from, lines_read, script_of, reading_of}
 use Rattle.script_text.specs.Rounds.{rounds_of}
 use Rattle.script_laws.specs.Printer.{line_text, ended_line, thread_lines, round_lines, printed}
-use Rattle.script_laws.specs.Printable.{name_in, Fits, thread_commands, round_commands, IsPrintable, IsReadAs}
+use Rattle.script_laws.specs.Printable.{name_in, Fits, thread_commands, round_commands, IsScript, IsReadAs}
 use Rattle.script_laws.proofs.FieldLemmas.{line_cut}
 use Rattle.script_laws.proofs.LineLemmas.{names_on, LineFits, Below, AreValid, AreOwn, line_fields, line_is_one, line_name, line_is_said}
 use Rattle.script_laws.proofs.OwnLemmas.{below_last, all_own}
@@ -102,8 +102,8 @@ read_from_lines text n ls h d r =
     let b : ltb 1048576 (length text) ≡ false = le-ltb 1048576 (length text) h in
     rw b (ap₂ script_of d r)
 
-pub printed_read : (f : ℕ → List ℕ) (count : ℕ) (rs : List (List (List Command))) → IsPrintable f count rs → IsReadAs (printed f rs) count rs
-printed_read f count rs p =
+pub printed_read : (f : ℕ → List ℕ) (count : ℕ) (rs : List (List (List Command))) → IsScript f count rs → length (printed f rs) ≤ 1048576 → IsReadAs (printed f rs) count rs
+printed_read f count rs p short =
     let ls = flat_map round_lines rs in
     let ks = flat_map name_in (round_commands rs) in
     let valid = p.named.valid in
@@ -119,7 +119,7 @@ printed_read f count rs p =
     let many : different (names_in (lines_of (printed f rs))) ≡ count = ap (λ zs. different (names_in zs)) cut ∙ ap different names ∙ own.1 in
     record {
       script = record { names = count; rounds = rounds_of (numbered 1 ls) };
-      read = read_from_lines (printed f rs) count (numbered 1 ls) p.short many read;
+      read = read_from_lines (printed f rs) count (numbered 1 ls) short many read;
       names = refl;
       commands = rounds_back 1 rs;
     }

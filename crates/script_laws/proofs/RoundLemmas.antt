@@ -91,7 +91,7 @@ commands_back : (n : ℕ) (cs : List Command) → map command_of (filter_map com
 commands_back n [] = refl
 commands_back n (c ∷ cs) = ap (λ zs. c ∷ zs) (commands_back (n + 1) cs)
 
-abbrev thread_back : ThreadLines → List Command
+abbrev pub thread_back : ThreadLines → List Command
 thread_back thread = map command_of thread.commands
 
 threads_back : (n : ℕ) (ts : List (List Command)) → map thread_back (map thread_of (marked_pieces is_thread (numbered n (flat_map thread_lines ts)))) ≡ ts
@@ -103,7 +103,7 @@ threads_back n (t ∷ ts) =
     ∙ ap (λ zs. map thread_back (map thread_of zs)) (piece_more is_thread (record { number = n; line = lines.Thread }) C D refl (any_numbered says_thread (n + 1) (map lines.Runs t) (no_thread_line t)) (marked_thread (n + 1 + length (map lines.Runs t)) ts))
     ∙ ap₂ (λ c cs. c ∷ cs) (commands_back (n + 1) t) (threads_back (n + 1 + length (map lines.Runs t)) ts)
 
-abbrev round_back : List ThreadLines → List (List Command)
+abbrev pub round_back : List ThreadLines → List (List Command)
 round_back round = map thread_back round
 
 rounds_in_pieces : (n : ℕ) (rs : List (List (List Command))) → map round_back (map threads_of (marked_pieces is_round (numbered n (flat_map round_lines rs)))) ≡ rs

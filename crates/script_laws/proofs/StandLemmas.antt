@@ -46,7 +46,7 @@ lines_are_read f all k before n (l ∷ ls) c s a =
 walks_append : (xs ys : List Command) → walks_in (xs ++ ys) ≡ walks_in xs + walks_in ys
 walks_append xs ys = sum_by-append (λ c. cond (says_walk (lines.Runs c)) 1 0) xs ys
 
-walks_more : (c : Command) (cs : List Command) → walks_in (c ∷ cs) ≡ cond (says_walk (lines.Runs c)) 1 0 + walks_in cs
+pub walks_more : (c : Command) (cs : List Command) → walks_in (c ∷ cs) ≡ cond (says_walk (lines.Runs c)) 1 0 + walks_in cs
 walks_more c cs = omega (arith, walks_append (c ∷ []) cs)
 
 commands_stand : (cs : List Command) (k : Counts) (rest : List Line) → IsBalanced k.depth cs → 1 ≤ k.threads → k.walks + walks_in cs ≤ 16 →

@@ -6,7 +6,9 @@ use Rattle.script_text.specs.declared.commands.Target.TheVariants as targets
 use Rattle.script_text.specs.declared.commands.Command.{Command}
 use Rattle.script_text.specs.declared.commands.Command.TheVariants as commands
 use Rattle.script_text.specs.declared.commands.Line.TheVariants as lines
+use Rattle.script_text.specs.Lines.{lines_of}
 use Rattle.script_text.specs.Words.{is_name}
+use Rattle.script_text.specs.Names.{names_in, number_of_name}
 use Rattle.script_text.specs.Order.{says_walk}
 use Rattle.script_text.specs.Reading.{reading_of}
 use Rattle.script_text.specs.Scripts.{commands_of}
@@ -18,10 +20,6 @@ use Rattle.script_laws.specs.Printer.{printed}
 abbrev pub name_in_target : Target → List ℕ
 name_in_target (targets.Name name) = name ∷ []
 name_in_target (targets.Addr address) = []
-
-abbrev pub number_in_target : Target → List ℕ
-number_in_target (targets.Name name) = []
-number_in_target (targets.Addr address) = address ∷ []
 
 -- the number of a command's name, if it has one
 abbrev pub name_in : Command → List ℕ
@@ -38,7 +36,8 @@ Is64Bits n = n < 2 ^ 64
 
 -- each address, size, index and value has 64 bits
 abbrev pub TargetFits : Target → Type 0
-TargetFits target = AllByRecursion Is64Bits (number_in_target target)
+TargetFits (targets.Name name) = Unit {0}
+TargetFits (targets.Addr address) = Is64Bits address
 
 abbrev pub Fits : Command → Type 0
 Fits (commands.Alloc name n zero) = Is64Bits n
@@ -56,8 +55,8 @@ pub record AreNames (names : ℕ → List ℕ) (count : ℕ) : Type 0 where
   pub valid : (k : ℕ) → k < count → is_name (names k) ≡ true
   pub different : (j k : ℕ) → j < count → k < count → names j ≡ names k → j ≡ k
 
--- Numbers in the order in which they first stand: each one stood before, or is the next one. They begin at one number and
--- end before another.
+-- Numbers in the order in which they first stand: each one stood before, or is the next one. `next` of them stood before
+-- these, and `last` behind them.
 abbrev pub AreInOrder : (next last : ℕ) → List ℕ → Type 0
 AreInOrder next last [] = next ≡ last
 AreInOrder next last (k ∷ ks) = (k ≤ next) × AreInOrder (max next (k + 1)) last ks
@@ -89,14 +88,13 @@ abbrev pub walks_in : List Command → ℕ
 walks_in commands = count_by (λ command. says_walk (lines.Runs command)) commands
 
 -- rounds of threads of commands, as the language has them, with so many names
-pub record IsPrintable (names : ℕ → List ℕ) (count : ℕ) (rounds : List (List (List Command))) : Type 0 where
+pub record IsScript (names : ℕ → List ℕ) (count : ℕ) (rounds : List (List (List Command))) : Type 0 where
   pub named : AreNames names count
   pub order : AreInOrder 0 count (flat_map name_in (round_commands rounds))
   pub numbers : AllByRecursion Fits (round_commands rounds)
   pub locks : AllByRecursion AreBalanced rounds
   pub threads : AllByRecursion HasFewThreads rounds
   pub walks : walks_in (round_commands rounds) ≤ 16
-  pub short : length (printed names rounds) ≤ 1048576
 
 -- a text is read as a script with so many names and these commands
 pub record IsReadAs (text : List ℕ) (count : ℕ) (rounds : List (List (List Command))) : Type 0 where
@@ -104,3 +102,11 @@ pub record IsReadAs (text : List ℕ) (count : ℕ) (rounds : List (List (List C
   pub read : reading_of text ≡ Ok script
   pub names : script.names ≡ count
   pub commands : commands_of script ≡ rounds
+
+-- Names of a text, each with its number there. With them its script can be printed, and what is printed is read as that
+-- script, unless it is too long.
+pub record HasOwnNames (text : List ℕ) (script : ScriptLines) : Type 0 where
+  pub names : ℕ → List ℕ
+  pub own : (k : ℕ) → k < script.names → number_of_name (names_in (lines_of text)) (names k) ≡ k
+  pub printable : IsScript names script.names (commands_of script)
+  pub again : length (printed names (commands_of script)) ≤ 1048576 → IsReadAs (printed names (commands_of script)) script.names (commands_of script)
