@@ -17,15 +17,12 @@ use Rattle.script_laws.specs.Printable.{name_in, Fits, thread_commands, round_co
 use Rattle.script_laws.proofs.FieldLemmas.{line_cut}
 use Rattle.script_laws.proofs.LineLemmas.{names_on, LineFits, Below, AreValid, AreOwn, line_fields, line_is_one, line_name, line_is_said}
 use Rattle.script_laws.proofs.OwnLemmas.{below_last, all_own}
+use Rattle.script_laws.proofs.FoundLemmas.{all_append}
 use Rattle.script_laws.proofs.StandLemmas.{numbered, IsSaid, lines_are_read, printed_stand, no_counts, counted_from_none}
 use Rattle.script_laws.proofs.RoundLemmas.{rounds_back}
 
 abbrev Suits : ℕ → Line → Type 0
 Suits count l = Below count (names_on l) × LineFits l
-
-all_append : {X : Type 0} (P : X → Type 0) (xs ys : List X) → AllByRecursion P xs → AllByRecursion P ys → AllByRecursion P (xs ++ ys)
-all_append P [] ys h k = k
-all_append P (x ∷ xs) ys h k = (h.0, all_append P xs ys h.1 k)
 
 all_parts : {X : Type 0} (P : X → Type 0) (xs ys : List X) → AllByRecursion P (xs ++ ys) → AllByRecursion P xs × AllByRecursion P ys
 all_parts P [] ys h = (tt, h)
