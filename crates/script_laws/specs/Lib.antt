@@ -1,1 +1,3 @@
 pub mod FirstFault
+pub mod Printer
+pub mod Printable
