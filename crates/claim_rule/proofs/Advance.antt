@@ -1,0 +1,175 @@
+-- One law for all steps of a caller: where its own entries may come behind the carried ones, and the words and the slots show what is behind
+-- them, the rule goes on, and the caller has seen the whole history.
+use Rattle.std.proofs.Common.{◌≡◌, ℕ, ◌≤◌, true, List, [], ◌∷◌, ◌++◌, length, set, refl, sym, ap, ◌∙◌, subst, Option}
+use mathlib.Core.Option.{some}
+use lib.ListN.{get_elem?}
+use Rattle.atomic_table.specs.Table.{State, Me, Act, stepped, homes_after}
+use Rattle.heap_model.specs.declared.Act.{Act as Deed}
+use Rattle.heap_model.specs.declared.Entry.{Entry}
+use Rattle.heap_model.specs.State.{Setting, caller_word}
+use Rattle.heap_model.specs.CallState.{Configuration, Nothing}
+use Rattle.heap_model.specs.History.{configuration_after, configuration_of, first_configuration, may_all_follow, is_legal}
+use Rattle.heap_model.specs.Agreement.{AgreesFor, GateIsSound}
+use Rattle.heap_model.proofs.GateSound.{gate_sound_after, gate_sound_first}
+use Rattle.heap_model.proofs.Others.{agrees_others}
+use Rattle.claim_rule.specs.declared.views.Assignment.{Assignment}
+use Rattle.claim_rule.specs.declared.views.Opening.{Opening}
+use Rattle.claim_rule.specs.declared.views.Role.TheVariants.{Caller}
+use Rattle.claim_rule.specs.declared.views.View.{View}
+use Rattle.claim_rule.specs.Shown.{Lag, lag_from, lag_of, no_lag, AreAllShown}
+use Rattle.claim_rule.specs.Home.{LayerState, AreHome}
+use Rattle.claim_rule.specs.Entries.{IsSettingOf, IsLegalWith, is_by, is_named, entry}
+use Rattle.claim_rule.specs.Rule.{KnowsAs, IsRuled, IsReady, view_of}
+use Rattle.claim_rule.specs.Plays.{Goes, Adds, number_of}
+use Rattle.claim_rule.proofs.Lists.{after-append, follow_join, follow_parts, legal_parts, legal_from, none_between, by-append, named-append, named_by, prefix_self, prefix_more, setting_less}
+use Rattle.claim_rule.proofs.Counts.{IsCounted, counted_after, counted_first, counted_few, owner_few}
+use Rattle.claim_rule.proofs.Prepared.{IsCarried, carried, prepared_by, homes_kept}
+use Rattle.claim_rule.proofs.Words.{all_same}
+use Rattle.claim_rule.proofs.Known.{known_set}
+
+-- the view that has seen the whole history
+abbrev pub sees : View → List Assignment → List Entry → View
+sees v roll log = view_of v.opening v.role roll log v.heard_roll v.heard
+
+lag-append : (g : Lag) (xs ys : List Entry) → lag_from g (xs ++ ys) ≡ lag_from (lag_from g xs) ys
+lag-append g [] ys = refl
+lag-append g (x ∷ xs) ys = lag-append (Rattle.claim_rule.specs.Shown.lag_after g x x.act) xs ys
+
+-- some setting is one of these callers
+pub some_setting : (o : Opening) (roll : List Assignment) → IsSettingOf o roll (Rattle.claim_rule.specs.Entries.setting_of o roll)
+some_setting o roll = record { limits = refl; seed = refl; slot = λ c lt. refl; stream = λ c lt. refl }
+
+module _ {T : Type 0} (stands : T → LayerState) (o : Opening) where
+  abbrev St : Type 0
+  St = State (Option T) View
+
+  pub role_of : (st : St) (r : IsRuled stands o st) (id n : ℕ) (v : View) → get_elem? st.views id ≡ some v → v.role ≡ Caller n → KnowsAs o r.log r.lead r.top r.owner id v (Caller n)
+  role_of st r id n v at is = subst (KnowsAs o r.log r.lead r.top r.owner id v) is (r.known id v at).role
+
+  -- what is so in a setting behind the carried entries
+  pub record IsBefore (st : St) (r : IsRuled stands o st) (n : ℕ) (v : View) (es : List Entry) (s : Setting) (m : Configuration) : Type 0 where
+    pub carried : IsCarried s n (configuration_of s r.log) (configuration_of s v.seen) es
+    pub whole : m.now.demand ≡ Nothing
+    pub words : AreAllShown o.limits r.lead.counted m (lag_of r.log) st.words
+    pub home : AreHome stands o m.state st.homes
+    pub counted : IsCounted m.state.gate
+    pub gate : GateIsSound m.state.gate
+    pub few : length m.state.gate.counted ≤ length r.lead.roll
+    pub owner : caller_word m.state.gate.owner ≤ length r.lead.roll
+
+  module _ (st : St) (r : IsRuled stands o st) (id n : ℕ) (v : View) (es : List Entry) (at : get_elem? st.views id ≡ some v) (h : IsReady n v es) where
+    -- the settings of the rule are settings of the view
+    pub setting_in : (s : Setting) → IsSettingOf o r.lead.roll s → IsSettingOf v.opening v.roll s
+    setting_in s q =
+        let p = role_of st r id n v at h.role in
+        let k = r.known id v at in
+        subst (λ (a : Opening). IsSettingOf a v.roll s) (sym p.4) (setting_less o v.roll r.lead.roll s k.seen.roll_begins q)
+
+    pub agrees : (s : Setting) → IsSettingOf o r.lead.roll s → AgreesFor n (configuration_of s r.log) (configuration_of s v.seen)
+    agrees s q =
+        let p = role_of st r id n v at h.role in
+        let k = r.known id v at in
+        let all = (legal_parts s r.log (r.shown s q).legal).0 in
+        let legal : may_all_follow s first_configuration (v.seen ++ k.seen.list_begins.0) ≡ true = ap (may_all_follow s first_configuration) k.seen.list_begins.1 ∙ all in
+        let parts = follow_parts s first_configuration v.seen k.seen.list_begins.0 legal in
+        subst (λ (m : Configuration). AgreesFor n m (configuration_of s v.seen)) (sym (after-append s first_configuration v.seen k.seen.list_begins.0) ∙ ap (configuration_of s) k.seen.list_begins.1)
+        (agrees_others s (configuration_of s v.seen) n k.seen.list_begins.0 (none_between n r.log v.seen k.seen.list_begins p.3) parts.1 (gate_sound_after s first_configuration v.seen parts.0 gate_sound_first))
+
+    pub before : (s : Setting) → IsSettingOf o r.lead.roll s → IsBefore st r n v es s (configuration_after s (configuration_of s r.log) es)
+    before s q =
+        let p = role_of st r id n v at h.role in
+        let k = r.known id v at in
+        let t = r.shown s q in
+        let q' = setting_in s q in
+        let log = legal_parts s r.log t.legal in
+        let seen = legal_parts s v.seen (k.seen.legal s (setting_less o v.roll r.lead.roll s k.seen.roll_begins q)) in
+        let c = carried s n (configuration_of s r.log) (configuration_of s v.seen) es (agrees s q) (log.1 ∙ sym seen.1) (h.prepared s q') in
+        let same : configuration_after s (configuration_of s r.log) es ≡ configuration_of s (r.log ++ es) = sym (after-append s first_configuration r.log es) in
+        let all = follow_join s first_configuration r.log es log.0 c.follows in
+        let names = named-append (length r.lead.roll) r.log es r.numbers.names (named_by (length r.lead.roll) n es p.0 (prepared_by s n (configuration_of s v.seen) es (h.prepared s q'))) in
+        record {
+          carried = c;
+          whole = c.demand ∙ h.whole s q';
+          words = all_same o.limits r.lead.counted (configuration_after s (configuration_of s r.log) es) (configuration_of s r.log) (lag_of r.log) st.words c.shown c.gate t.words;
+          home = homes_kept stands o (configuration_after s (configuration_of s r.log) es).state (configuration_of s r.log).state st.homes c.homes t.home;
+          counted = counted_after s (configuration_of s r.log) es c.follows (counted_after s first_configuration r.log log.0 counted_first);
+          gate = gate_sound_after s (configuration_of s r.log) es c.follows (gate_sound_after s first_configuration r.log log.0 gate_sound_first);
+          few = subst (λ (m : Configuration). length m.state.gate.counted ≤ length r.lead.roll) (sym same) (counted_few s (length r.lead.roll) (r.log ++ es) names all);
+          owner = subst (λ (m : Configuration). caller_word m.state.gate.owner ≤ length r.lead.roll) (sym same) (owner_few s (length r.lead.roll) (r.log ++ es) names all);
+        }
+
+    pub by : is_by n es ≡ true
+    by =
+        let q = some_setting v.opening v.roll in
+        let s = Rattle.claim_rule.specs.Entries.setting_of v.opening v.roll in
+        prepared_by s n (configuration_of s v.seen) es (h.prepared s q)
+
+    -- The law that each kind of step ends with: its own entries are ds.
+    pub acts : (c : List (ℕ × Option T)) (i x : ℕ) (a : Act (Option T)) (ds : List Entry) → is_by n ds ≡ true → ((g : Lag) → lag_from g ds ≡ g)
+        → ((s : Setting) → IsSettingOf o r.lead.roll s →
+        (may_all_follow s (configuration_after s (configuration_of s r.log) es) ds ≡ true)
+        × ((configuration_after s (configuration_after s (configuration_of s r.log) es) ds).now.demand ≡ Nothing)
+        × AreAllShown o.limits r.lead.counted (configuration_after s (configuration_after s (configuration_of s r.log) es) ds) (lag_of r.log) (set st.words i x)
+        × AreHome stands o (configuration_after s (configuration_after s (configuration_of s r.log) es) ds).state (homes_after st.homes c a))
+        → (w : View) × IsRuled stands o (stepped st i x id c w a) × Goes n v w es ds
+    acts c i x a ds bd lag shows =
+        let p = role_of st r id n v at h.role in
+        let k = r.known id v at in
+        let all : List Entry = es ++ ds in
+        let ball = by-append n es ds by bd in
+        let log : List Entry = r.log ++ all in
+        let w : View = sees v r.lead.roll log in
+        let behind : (s : Setting) → configuration_of s log ≡ configuration_after s (configuration_after s (configuration_of s r.log) es) ds =
+        λ s. after-append s first_configuration r.log all ∙ after-append s (configuration_of s r.log) es ds in
+        let lags : (s : Setting) → IsSettingOf o r.lead.roll s → lag_of log ≡ lag_of r.log =
+        λ s q. lag-append no_lag r.log all ∙ (lag-append (lag_of r.log) es ds ∙ (ap (λ (g : Lag). lag_from g ds) ((before s q).carried.lag (lag_of r.log)) ∙ lag (lag_of r.log))) in
+        let legal : (s : Setting) → IsSettingOf o r.lead.roll s → is_legal s log ≡ true =
+        λ s q. legal_from s log
+        (follow_join s first_configuration r.log all (legal_parts s r.log (r.shown s q).legal).0 (follow_join s (configuration_of s r.log) es ds (before s q).carried.follows (shows s q).0))
+        (ap (λ (m : Configuration). m.now.demand) (behind s) ∙ (shows s q).1) in (
+          w,
+          record {
+            log = log;
+            lead = r.lead;
+            top = r.top;
+            owner = r.owner;
+            numbers = record {
+              limits = r.numbers.limits;
+              slots = r.numbers.slots;
+              dealt = r.numbers.dealt;
+              counted = r.numbers.counted;
+              joined = r.numbers.joined;
+              names = named-append (length r.lead.roll) r.log all r.numbers.names (named_by (length r.lead.roll) n all p.0 ball);
+            };
+            shown = λ s q. record {
+              legal = legal s q;
+              words = subst (λ (m : Configuration). AreAllShown o.limits r.lead.counted m (lag_of log) (set st.words i x)) (sym (behind s))
+                  (subst (λ (g : Lag). AreAllShown o.limits r.lead.counted (configuration_after s (configuration_after s (configuration_of s r.log) es) ds) g (set st.words i x)) (sym (lags s q)) (shows s q).2);
+              home = subst (λ (m : Configuration). AreHome stands o m.state (homes_after st.homes c a)) (sym (behind s)) (shows s q).3;
+            };
+            known = known_set o r.log r.lead r.top r.owner n id p.1 p.2 all ball st.views w r.known (record {
+              seen = record { list_begins = prefix_self log; roll_begins = prefix_self r.lead.roll; legal = legal };
+              heard = record { list_begins = prefix_more v.heard r.log all k.heard.list_begins; roll_begins = k.heard.roll_begins; legal = k.heard.legal };
+              role = subst (KnowsAs o log r.lead r.top r.owner id w) (sym h.role) (p.0, p.1, p.2, refl, p.4);
+            });
+          },
+          record {
+            between = k.seen.list_begins.0;
+            seen = ap (λ (l : List Entry). l ++ all) (sym k.seen.list_begins.1);
+            others = none_between n r.log v.seen k.seen.list_begins p.3;
+            legal = subst (λ (b : Opening). IsLegalWith b r.lead.roll log) (sym p.4) legal;
+            goes = λ s q.
+                let q' = subst (λ (b : Opening). IsSettingOf b r.lead.roll s) p.4 q in
+                record { before = configuration_after s (configuration_of s r.log) es; agrees = (before s q').carried.agrees; whole = (before s q').whole; follows = (shows s q').0; behind = behind s };
+            roll = k.seen.roll_begins;
+            opening = refl;
+            role = refl;
+          },
+        )
+
+-- with the number that the view names
+pub adds_of : {T : Type 0} (m m' : Me (Option T) View) (n : ℕ) (es : List Entry) (d : Deed) → m.0.role ≡ Caller n → Goes n m.0 m'.0 es (entry n d ∷ []) → Adds es d m m'
+adds_of m m' n es d is g = subst (λ (k : ℕ). Goes k m.0 m'.0 es (entry k d ∷ [])) (sym (ap number_of is)) g
+
+pub goes_of : {T : Type 0} (m m' : Me (Option T) View) (n : ℕ) (es ds : List Entry) → m.0.role ≡ Caller n → Goes n m.0 m'.0 es ds → Goes (number_of m.0.role) m.0 m'.0 es ds
+goes_of m m' n es ds is g = subst (λ (k : ℕ). Goes k m.0 m'.0 es ds) (sym (ap number_of is)) g

@@ -1,0 +1,11 @@
+pub mod Lists
+pub mod Counts
+pub mod Quiet
+pub mod Homes
+pub mod Prepared
+pub mod Words
+pub mod Known
+pub mod Advance
+pub mod Gate
+pub mod HeapLock
+pub mod Seats

@@ -1,0 +1,78 @@
+-- Where the words of the table lie, for the limits l.
+use Rattle.std.specs.Prelude.{◌≡◌, ℕ, ◌+◌, ◌*◌, List, [], ◌∷◌}
+use Rattle.heap_model.specs.declared.Limits.{Limits}
+use Rattle.heap_model.specs.declared.What.{What}
+use Rattle.heap_model.specs.declared.What.TheVariants as whats
+
+-- so many words from one on
+pub record Region : Type 0 where
+  pub from : ℕ
+  pub words : ℕ
+
+abbrev pub made_word : ℕ
+made_word = 0
+
+abbrev pub gate_at : ℕ
+gate_at = 1
+
+abbrev pub lock_at : What → ℕ
+lock_at whats.Gate = gate_at
+lock_at whats.Lfh = 2
+lock_at whats.Vs = 3
+lock_at whats.Back = 4
+lock_at whats.Large = 5
+
+abbrev pub made_region : Region
+made_region = record { from = 0; words = 1 }
+
+abbrev pub gate_region : Region
+gate_region = record { from = 1; words = 1 }
+
+abbrev pub locks_region : Region
+locks_region = record { from = 2; words = 4 }
+
+-- one word for each bucket, from 1
+abbrev pub active_region : Region
+active_region = record { from = 6; words = 128 }
+
+-- 16 words for each bucket, one for each slot
+abbrev pub hints_region : Region
+hints_region = record { from = 134; words = 2048 }
+
+-- one word for each page
+abbrev pub tags_region : Limits → Region
+tags_region l = record { from = 2182; words = 256 * l.segments }
+
+-- four words for each page
+abbrev pub bitmaps_region : Limits → Region
+bitmaps_region l = record { from = 2182 + 256 * l.segments; words = 1024 * l.segments }
+
+-- one word for each granule of the segments
+abbrev pub sizes_region : Limits → Region
+sizes_region l = record { from = 2182 + 1280 * l.segments; words = 65536 * l.segments }
+
+-- one word for each 8 bytes of the segments and of the large area
+abbrev pub data_region : Limits → Region
+data_region l = record { from = 2182 + 66816 * l.segments; words = 131072 * l.segments + 512 * l.large_pages }
+
+abbrev pub word_count : Limits → ℕ
+word_count l = 2182 + 197888 * l.segments + 512 * l.large_pages
+
+abbrev pub regions : Limits → List Region
+regions l =
+    made_region ∷ gate_region ∷ locks_region ∷ active_region ∷ hints_region ∷ tags_region l ∷ bitmaps_region l ∷ sizes_region l ∷ data_region l ∷ []
+
+-- each region begins where the one before it ends, and the last ends at a word
+abbrev pub Fill : ℕ → List Region → ℕ → Type 0
+Fill from [] end = from ≡ end
+Fill from (r ∷ rs) end = (r.from ≡ from) × Fill (r.from + r.words) rs end
+
+-- the slots of the layers' states
+abbrev pub vs_slot : ℕ
+vs_slot = 0
+
+abbrev pub back_slot : ℕ
+back_slot = 1
+
+abbrev pub large_slot : ℕ
+large_slot = 2

@@ -1,0 +1,291 @@
+-- What callers know that have met, and the root that has made a caller or taken one in.
+use Rattle.std.proofs.Common.{◌≡◌, ⊎_elim, ℕ, ◌+◌, ◌<◌, ◌≤◌, Bool, true, false, not, ◌&&◌, ◌==◌, cond, List, [], ◌∷◌, ◌++◌, length, refl, sym, ap, ◌∙◌, subst, arith, Option, Some, None, length-append, inl, inr}
+use Rattle.std.specs.Prelude.{nat_lt}
+use Rattle.std.proofs.lemmas.Bool.{ltb-false, false≢true}
+use mathlib.Core.List.{IsPrefix}
+use Rattle.atomic_table.specs.Table.{Me, Step}
+use Rattle.atomic_table.specs.Seated.{TableId}
+use Rattle.rand_core.specs.Stream.{Stream}
+use Rattle.heap_model.specs.declared.Call.{Call}
+use Rattle.heap_model.specs.declared.Entry.{Entry}
+use Rattle.heap_model.specs.State.{Setting, is_among, is_caller, is_entered, hands}
+use Rattle.heap_model.specs.CallState.{Configuration, CallerView, Nothing, caller_view, holds_none}
+use Rattle.heap_model.specs.History.{configuration_after, configuration_of, first_configuration, own}
+use Rattle.heap_model.specs.Agreement.{AgreesFor}
+use Rattle.heap_model.proofs.GateSound.{gate_sound_after, gate_sound_first}
+use Rattle.heap_model.proofs.Others.{agrees_others}
+use Rattle.heap_model.proofs.Stable.{caller_view_same, same_hands}
+use Rattle.claim_rule.specs.declared.views.Assignment.{Assignment}
+use Rattle.claim_rule.specs.declared.views.Opening.{Opening}
+use Rattle.claim_rule.specs.declared.views.Role.{Role}
+use Rattle.claim_rule.specs.declared.views.Role.TheVariants.{Caller, Root}
+use Rattle.claim_rule.specs.declared.views.Lead.{Lead}
+use Rattle.claim_rule.specs.declared.views.View.{View}
+use Rattle.claim_rule.specs.Entries.{IsSettingOf, IsLegalWith, is_named, slot_at}
+use Rattle.claim_rule.specs.Rule.{longer, relay, told, taken_in, dealing, dealing_role, dealt, joined_role}
+use Rattle.claim_rule.specs.Plays.{agreed, numbered, heard_all, number_of}
+use Rattle.claim_rule.proofs.Lists.{after-append, follow_parts, legal_parts, none_between, named_more, setting_less, prefix_more, prefix_self, slot_before}
+use Rattle.claim_rule.proofs.Seats.{at_joined}
+use Rattle.random_pick.specs.CallerDraws.{IsBeforeDraw}
+use Rattle.heap_gate.specs.Token.{Token, IsAt, IsIdle, IsCaller, HaveMet, IsRoot, root_token, HasJoined, joined_of, roll_in, lead_at}
+use Rattle.heap_gate.proofs.Standing.{at_agrees}
+use Rattle.heap_gate.proofs.Tokens.{tok}
+
+-- entries of others leave what n alone decides
+pub agrees_longer : (s : Setting) (n : ℕ) (xs ys : List Entry) → Rattle.heap_model.specs.History.is_legal s ys ≡ true → IsPrefix xs ys → own n ys ≡ own n xs → AgreesFor n (configuration_of s ys) (configuration_of s xs)
+agrees_longer s n xs ys l p o =
+    let all = (legal_parts s ys l).0 in
+    let parts = follow_parts s first_configuration xs p.0 (ap (Rattle.heap_model.specs.History.may_all_follow s first_configuration) p.1 ∙ all) in
+    subst (λ (m : Configuration). AgreesFor n m (configuration_of s xs)) (sym (after-append s first_configuration xs p.0) ∙ ap (configuration_of s) p.1)
+    (agrees_others s (configuration_of s xs) n p.0 (none_between n ys xs p o) parts.1 (gate_sound_after s first_configuration xs parts.0 gate_sound_first))
+
+pub idle_agrees : (s : Setting) (n : ℕ) (m k : Configuration) → AgreesFor n m k → IsIdle n k → IsIdle n m
+idle_agrees s n m k r h = record { counted = r.counted ∙ h.counted; owner = r.owner ∙ h.owner; locks = ap holds_none (caller_view_same n m k r) ∙ h.locks; hands = same_hands s n m k r ∙ h.hands }
+
+pub idle_of : (m : Configuration) (n : ℕ) (p : Option Call) → IsAt m n p false 0 → IsIdle n m
+idle_of m n p h = record { counted = absent (is_among n m.state.gate.counted) h.entered; owner = h.owns; locks = h.locks; hands = h.hands }
+  where
+    absent : (a : Bool) → (a && not (is_among n m.state.gate.turning)) ≡ false → a ≡ false
+    absent true e = absurd (false≢true (sym e ∙ ap not h.turning))
+    absent false e = refl
+
+prefix_whole : {A : Type 0} (xs ys : List A) → IsPrefix xs ys → length ys ≤ length xs → xs ≡ ys
+prefix_whole [] [] p le = refl
+prefix_whole [] (y ∷ ys) p le = absurd (omega arith)
+prefix_whole (x ∷ xs) [] p le = absurd (cc (p.1))
+prefix_whole (x ∷ xs) (y ∷ ys) p le = let rest = prefix_whole xs ys (p.0, cc (p.1)) (omega arith) in cc (p.1, rest)
+
+longer_if : {A : Type 0} (xs ys : List A) → IsPrefix xs ys → (b : Bool) → nat_lt (length xs) (length ys) ≡ b → cond b ys xs ≡ ys
+longer_if xs ys p true e = refl
+longer_if xs ys p false e = let l = ltb-false (length xs) (length ys) e in prefix_whole xs ys p (omega arith)
+
+-- the longer of a list and a list that it begins
+longer_is : {A : Type 0} (xs ys : List A) → IsPrefix xs ys → longer xs ys ≡ ys
+longer_is xs ys p = longer_if xs ys p (nat_lt (length xs) (length ys)) refl
+
+module _ {T : Type 0} where
+  -- a seat that heard of a list has taken the longer
+  pub record HasTaken (n : ℕ) (me me' : Me (Option T) View) (roll : List Assignment) (list : List Entry) : Type 0 where
+    pub seen_is : me'.0.seen ≡ longer me.0.seen list
+    pub roll_is : me'.0.roll ≡ longer me.0.roll roll
+    pub seen : IsPrefix me.0.seen me'.0.seen
+    pub heard : IsPrefix list me'.0.seen
+    pub roll_begins : IsPrefix me.0.roll me'.0.roll
+    pub heard_roll : IsPrefix roll me'.0.roll
+    pub own_is : own n me'.0.seen ≡ own n me.0.seen
+    pub legal : IsLegalWith me'.0.opening me'.0.roll me'.0.seen
+    pub opening : me'.0.opening ≡ me.0.opening
+    pub role : me'.0.role ≡ me.0.role
+    pub slots : me'.1 ≡ me.1
+
+  taken : (n : ℕ) (me me1 me' : Me (Option T) View) (w : View) (st : Step (Option T)) (r : ℕ) → me.0.role ≡ Caller n → me1 ≡ (told me.0 w, me.1) → agreed st me1 r me' → HasTaken n me me' w.roll w.seen
+  taken n me me1 me' w st r is e a = go (subst (λ (m : Me (Option T) View). agreed st m r me') e a)
+    where
+      go : agreed st (told me.0 w, me.1) r me' → HasTaken n me me' w.roll w.seen
+      go b = record {
+        seen_is = b.seen_is;
+        roll_is = b.roll_is;
+        seen = b.seen;
+        heard = b.heard;
+        roll_begins = b.roll;
+        heard_roll = b.heard_roll;
+        own_is = subst (λ (k : ℕ). own k me'.0.seen ≡ own k me.0.seen) (ap number_of is) b.own_is;
+        legal = b.legal;
+        opening = b.opening;
+        role = b.role;
+        slots = b.slots;
+      }
+
+  pub meets : (na nb : ℕ) (a a1 a2 a3 b b1 b2 b3 n1 n2 : Me (Option T) View) (st st' : Step (Option T)) (r r' : ℕ) → a.0.role ≡ Caller na → b.0.role ≡ Caller nb
+      → a1 ≡ a → n1 ≡ (relay a.0, []) → b1 ≡ (told b.0 n1.0, b.1) → agreed st b1 r b2 → b3 ≡ b2 → n2 ≡ (relay b2.0, []) → a2 ≡ (told a1.0 n2.0, a1.1) → agreed st' a2 r' a3
+      → HasTaken nb b b3 a.0.roll a.0.seen × HasTaken na a a3 b3.0.roll b3.0.seen
+  meets na nb a a1 a2 a3 b b1 b2 b3 n1 n2 st st' r r' ra rb ea en eb ab eb' en' ea' aa =
+      let tb : HasTaken nb b b2 a.0.roll a.0.seen = taken nb b b1 b2 (relay a.0) st r rb (eb ∙ ap (λ (m : Me (Option T) View). (told b.0 m.0, b.1)) en) ab in
+      let ta : HasTaken na a a3 b2.0.roll b2.0.seen = taken na a a2 a3 (relay b2.0) st' r' ra (ea' ∙ (ap (λ (m : Me (Option T) View). (told a1.0 m.0, a1.1)) en' ∙ ap (λ (m : Me (Option T) View). (told m.0 (relay b2.0), m.1)) ea)) aa in
+      (subst (λ (m : Me (Option T) View). HasTaken nb b m a.0.roll a.0.seen) (sym eb') tb, subst (λ (m : Me (Option T) View). HasTaken na a a3 m.0.roll m.0.seen) (sym eb') ta)
+
+  module _ (z : TableId) (me : Me (Option T) View) (n : ℕ) (es : List Entry) (p : Option Call) (k l i : Bool) (d : ℕ) (w : Bool) (stream : Stream) (h : IsCaller me (tok z me n es p k l i d w) stream) (none : es ≡ []) (me' : Me (Option T) View) (roll : List Assignment) (list : List Entry) (t : HasTaken n me me' roll list) where
+    setting_was : (s : Setting) → IsSettingOf me'.0.opening me'.0.roll s → IsSettingOf me.0.opening me.0.roll s
+    setting_was s q = setting_less me.0.opening me.0.roll me'.0.roll s t.roll_begins (subst (λ (o : Opening). IsSettingOf o me'.0.roll s) t.opening q)
+
+    pub agrees_taken : (s : Setting) → IsSettingOf me'.0.opening me'.0.roll s → AgreesFor n (configuration_after s (configuration_of s me'.0.seen) es) (configuration_after s (configuration_of s me.0.seen) es)
+    agrees_taken s q = subst (λ (x : List Entry). AgreesFor n (configuration_after s (configuration_of s me'.0.seen) x) (configuration_after s (configuration_of s me.0.seen) x)) (sym none) (agrees_longer s n me.0.seen me'.0.seen (t.legal s q) t.seen t.own_is)
+
+    pub caller_taken : (z' : TableId) (slot : ℕ) → slot_at me.0.roll n ≡ slot → IsCaller me' (tok z' me' n es p k l i d w) stream × (slot_at me'.0.roll n ≡ slot)
+    caller_taken z' slot e =
+        let len : length me'.0.roll ≡ length me.0.roll + length t.roll_begins.0 = sym (ap length t.roll_begins.1) ∙ length-append me.0.roll t.roll_begins.0 in
+        let known = h.known in
+        let whole : (s : Setting) → IsSettingOf me'.0.opening me'.0.roll s → (configuration_after s (configuration_of s me'.0.seen) es).now.demand ≡ Nothing =
+        λ s q. ap (λ (x : List Entry). (configuration_after s (configuration_of s me'.0.seen) x).now.demand) none ∙ (legal_parts s me'.0.seen (t.legal s q)).1 in (
+          record {
+            ready = record { role = t.role ∙ h.ready.role; prepared = λ s q. ap (Rattle.claim_rule.specs.Entries.are_prepared s (configuration_of s me'.0.seen) n) none; whole = whole };
+            legal = t.legal;
+            slots = t.slots ∙ h.slots;
+            at = λ s q. at_agrees s (configuration_after s (configuration_of s me'.0.seen) es) (configuration_after s (configuration_of s me.0.seen) es) n p i d (agrees_taken s q) (whole s q) (h.at s (setting_was s q));
+            known = omega arith;
+            few = subst (λ (o : Opening). n < o.limits.callers) (sym t.opening) h.few;
+            small = subst (λ (o : Opening). o.limits.callers < 65536) (sym t.opening) h.small;
+            few_prepared = h.few_prepared;
+            alone = h.alone;
+            marks = ap (λ (x : List Entry). Rattle.heap_gate.specs.Token.marks_of (x ++ es)) t.own_is ∙ h.marks;
+            outside = h.outside;
+            draws = λ s q. h.draws s (setting_was s q);
+          },
+          ap (λ (y : List Assignment). slot_at y n) (sym t.roll_begins.1) ∙ (slot_before me.0.roll t.roll_begins.0 n h.known ∙ e),
+        )
+
+  pub met : (za za' zb zb' : TableId) (a a' b b' : Me (Option T) View) (na nb : ℕ) (pa pb : List Entry) (ca cb : Option Call) (ka la ia kb lb ib : Bool) (da db : ℕ) (wa wb : Bool) (sa sb : Stream)
+      → IsCaller a (tok za a na pa ca ka la ia da wa) sa → IsCaller b (tok zb b nb pb cb kb lb ib db wb) sb → pa ≡ [] → pb ≡ [] → za' ≡ za → zb' ≡ zb
+      → HasTaken nb b b' a.0.roll a.0.seen → HasTaken na a a' b'.0.roll b'.0.seen
+      → HaveMet (tok za a na pa ca ka la ia da wa) (tok zb b nb pb cb kb lb ib db wb) (tok za' a' na pa ca ka la ia da wa) (tok zb' b' nb pb cb kb lb ib db wb)
+  met za za' zb zb' a a' b b' na nb pa pb ca cb ka la ia kb lb ib da db wa wb sa sb ha hb ea0 eb0 ea eb tb ta = record {
+    one = ta.seen_is ∙ longer_is a.0.seen b'.0.seen tb.heard;
+    one_roll = ta.roll_is ∙ longer_is a.0.roll b'.0.roll tb.heard_roll;
+    legal = ta.legal;
+    first = (ta.seen, ta.roll_begins, ta.own_is);
+    second = (tb.seen, tb.roll_begins, tb.own_is);
+    agrees = agrees_taken za a na pa ca ka la ia da wa sa ha ea0 a' b'.0.roll b'.0.seen ta;
+    agrees' = agrees_taken zb b nb pb cb kb lb ib db wb sb hb eb0 b' a.0.roll a.0.seen tb;
+    same = ap (λ (x : TableId × Opening). record (tok za a' na pa ca ka la ia da wa) { table = x.0; opening = x.1 }) (λ j. (ea j, ta.opening j));
+    same' = ap (λ (x : TableId × Opening). record (tok zb b' nb pb cb kb lb ib db wb) { table = x.0; opening = x.1 }) (λ j. (eb j, tb.opening j));
+  }
+
+  -- the root's role once it has taken in a caller
+  pub root_taken : (me me1 : Me (Option T) View) (c : View) (made n : ℕ) → IsRoot me made → c.role ≡ Caller n → me1 ≡ (taken_in me.0 c, me.1)
+      → me1.0.role ≡ Root (record { counted = length (roll_in me.0.role); roll = roll_in me.0.role; joined = n ∷ joined_of me.0.role; last = n + 1 })
+  root_taken me me1 c made n k kc e =
+      ap (λ (m : Me (Option T) View). m.0.role) e ∙ (ap (λ (o : Role). joined_role o c.role) k.role ∙ ap (joined_role (Root (lead_at (roll_in me.0.role) (joined_of me.0.role)))) kc)
+
+  -- the root once it has taken in a caller and heard all
+  pub root_joined : (z z' : TableId) (c : Token) (me me1 me2 : Me (Option T) View) (cv : View) (made r : ℕ) (st : Step (Option T)) → z' ≡ z → IsRoot me made → cv.role ≡ Caller c.number → c.seen ≡ cv.seen → c.roll ≡ cv.roll
+      → me1 ≡ (taken_in me.0 cv, me.1) → heard_all st me1 r me2
+      → ((s : Setting) → IsSettingOf me.0.opening cv.roll s → IsIdle c.number (configuration_of s cv.seen))
+      → IsRoot me2 made × HasJoined (root_token z me) c (root_token z' me2)
+  root_joined z z' c me me1 me2 cv made r st ez k kc es er e h0 idle =
+      let J : List ℕ = joined_of me.0.role in
+      let R : List Assignment = roll_in me.0.role in
+      let n : ℕ = c.number in
+      let h = subst (λ (m : Me (Option T) View). heard_all st m r me2) e h0 in
+      let q : Lead = record { counted = length R; roll = R; joined = n ∷ J; last = n + 1 } in
+      let e1 : joined_role me.0.role cv.role ≡ Root q = ap (λ (o : Role). joined_role o cv.role) k.role ∙ ap (joined_role (Root (lead_at R J))) kc in
+      let e2 : me2.0.role ≡ Root (lead_at R (n ∷ J)) = h.role q e1 in
+      let joined : joined_of me2.0.role ≡ n ∷ J = ap joined_of e2 in
+      let roll : roll_in me2.0.role ≡ R = ap roll_in e2 in
+      let mine : own n me2.0.seen ≡ own n cv.seen = h.last q e1 n refl in
+      let legal : IsLegalWith me2.0.opening (roll_in me2.0.role) me2.0.seen = subst (λ (x : List Assignment). IsLegalWith me2.0.opening x me2.0.seen) (h.roll q e1 ∙ sym roll) h.legal in
+      let was : (s : Setting) → IsSettingOf me2.0.opening (roll_in me2.0.role) s → IsSettingOf me.0.opening R s =
+      λ s x. subst (λ (y : Opening × List Assignment). IsSettingOf y.0 y.1 s) (λ j. (h.opening j, roll j)) x in
+      let here : (s : Setting) → IsSettingOf me2.0.opening (roll_in me2.0.role) s → IsIdle n (configuration_of s me2.0.seen) =
+      λ s x. idle_agrees s n (configuration_of s me2.0.seen) (configuration_of s cv.seen) (agrees_longer s n cv.seen me2.0.seen (legal s x) h.heard mine) (idle s (setting_less me.0.opening cv.roll R s (subst (IsPrefix cv.roll) (h.roll q e1) h.heard_roll) (was s x))) in (
+        record {
+          role = e2 ∙ ap (λ (x : List Assignment × List ℕ). Root (lead_at x.0 x.1)) (λ j. (sym roll j, sym joined j));
+          count_is = ap length roll ∙ k.count_is;
+          slots = h.slots ∙ k.slots;
+          legal = legal;
+          names = ap (λ (x : List Assignment). is_named (length x) me2.0.seen) roll ∙ h.names q e1;
+          idle = λ m t s x. ⊎_elim
+              (λ (y : n ≡ m). subst (λ (u : ℕ). IsIdle u (configuration_of s me2.0.seen)) y (here s x))
+              (λ (y : is_among m J ≡ true). ⊎_elim
+              (λ (l : n + 1 ≡ m + 1). let same : n ≡ m = omega arith in subst (λ (u : ℕ). IsIdle u (configuration_of s me2.0.seen)) same (here s x))
+              (λ (o : own m me2.0.seen ≡ own m me.0.seen). idle_agrees s m (configuration_of s me2.0.seen) (configuration_of s me.0.seen) (agrees_longer s m me.0.seen me2.0.seen (legal s x) h.seen o) (k.idle m y s (was s x)))
+              (h.kept q e1 m (ap (is_among m) (sym joined) ∙ t)))
+              (at_joined n m J (ap (is_among m) (sym joined) ∙ t));
+        },
+        record { table = ez; opening = h.opening; roll = roll; joined = joined; seen = h.seen; theirs = subst (λ (x : List Entry). IsPrefix x me2.0.seen) (sym es) h.heard; own = mine ∙ ap (own n) (sym es); legal = legal },
+      )
+
+  -- the root once it has made a caller
+  pub record HasMade (a : Assignment) (me me2 : Me (Option T) View) (made : ℕ) : Type 0 where
+    pub root : IsRoot me2 (made + 1)
+    pub roll : roll_in me2.0.role ≡ roll_in me.0.role ++ a ∷ []
+    pub joined : joined_of me2.0.role ≡ joined_of me.0.role
+    pub seen : me2.0.seen ≡ me.0.seen
+    pub opening : me2.0.opening ≡ me.0.opening
+
+  pub counted_role : (me me1 : Me (Option T) View) (made n : ℕ) (st : Step (Option T)) → IsRoot me made → numbered st me n me1
+      → me1.0.role ≡ Root (record { counted = length (roll_in me.0.role) + 1; roll = roll_in me.0.role; joined = joined_of me.0.role; last = 0 })
+  counted_role me me1 made n st k t = (t.role (lead_at (roll_in me.0.role) (joined_of me.0.role)) k.role).1
+
+  pub root_made : (a : Assignment) (me me1 me2 : Me (Option T) View) (made n : ℕ) (st : Step (Option T)) → IsRoot me made → numbered st me n me1 → me2 ≡ (dealing a me1.0, me1.1) → HasMade a me me2 made
+  root_made a me me1 me2 made n st k t e =
+      let J : List ℕ = joined_of me.0.role in
+      let R : List Assignment = roll_in me.0.role in
+      let len : length (R ++ a ∷ []) ≡ length R + 1 = length-append R (a ∷ []) in
+      let e1 = counted_role me me1 made n st k t in
+      let e2 : me2.0.role ≡ Root (lead_at (R ++ a ∷ []) J) =
+      ap (λ (m : Me (Option T) View). m.0.role) e ∙ (ap (dealing_role a) e1 ∙ ap (λ (x : ℕ). Root (record { counted = x; roll = R ++ a ∷ []; joined = J; last = 0 })) (sym len)) in
+      let joined : joined_of me2.0.role ≡ J = ap joined_of e2 in
+      let roll : roll_in me2.0.role ≡ R ++ a ∷ [] = ap roll_in e2 in
+      let seen : me2.0.seen ≡ me.0.seen = ap (λ (m : Me (Option T) View). m.0.seen) e ∙ t.seen in
+      let opening : me2.0.opening ≡ me.0.opening = ap (λ (m : Me (Option T) View). m.0.opening) e ∙ t.opening in
+      let was : (s : Setting) → IsSettingOf me2.0.opening (roll_in me2.0.role) s → IsSettingOf me.0.opening R s =
+      λ s x. setting_less me.0.opening R (R ++ a ∷ []) s (prefix_more R R (a ∷ []) (prefix_self R)) (subst (λ (y : Opening × List Assignment). IsSettingOf y.0 y.1 s) (λ j. (opening j, roll j)) x) in
+      record {
+        root = record {
+          role = e2 ∙ ap (λ (x : List Assignment × List ℕ). Root (lead_at x.0 x.1)) (λ j. (sym roll j, sym joined j));
+          count_is = let c = k.count_is in ap length roll ∙ (len ∙ ap (λ (x : ℕ). x + 1) c);
+          slots = ap (λ (m : Me (Option T) View). m.1) e ∙ (t.slots ∙ k.slots);
+          legal = λ s x. ap (Rattle.heap_model.specs.History.is_legal s) seen ∙ k.legal s (was s x);
+          names = ap (λ (x : List Assignment). is_named (length x) me2.0.seen) roll ∙ (ap (is_named (length (R ++ a ∷ []))) seen ∙ named_more (length R) (length (R ++ a ∷ [])) me.0.seen (omega arith) k.names);
+          idle = λ m h s x. subst (λ (l : List Entry). IsIdle m (configuration_of s l)) (sym seen) (k.idle m (ap (is_among m) (sym joined) ∙ h) s (was s x));
+        };
+        roll = roll;
+        joined = joined;
+        seen = seen;
+        opening = opening;
+      }
+
+slot_last : (a : Assignment) (xs : List Assignment) → slot_at (xs ++ a ∷ []) (length xs) ≡ a.slot
+slot_last a [] = refl
+slot_last a (x ∷ xs) = slot_last a xs
+
+stream_last : (a : Assignment) (xs : List Assignment) → Rattle.claim_rule.specs.Entries.stream_at (xs ++ a ∷ []) (length xs) ≡ a.stream
+stream_last a [] = refl
+stream_last a (x ∷ xs) = stream_last a xs
+
+none_some : {A : Type 0} (a : A) → None ≡ Some a → ⊥
+none_some a e = let no : ⊥ = cc in no
+
+module _ {T : Type 0} where
+  -- the new caller has seen nothing
+  pub fresh : (z : TableId) (o : Opening) (a : Assignment) (v : View) (R : List Assignment) (J : List ℕ) (seed : ℕ) (g : Rattle.rand_pcg.specs.Lcg.Lcg) (me : Me (Option T) View) (made : ℕ)
+      → v.role ≡ Root (record { counted = length R + 1; roll = R; joined = J; last = 0 }) → v.opening ≡ o → me ≡ (dealt a v, []) → length R ≡ made
+      → length R < o.limits.callers → o.limits.callers ≤ 64 → seed ≡ o.seed → g ≡ Rattle.rand_pcg.specs.Lcg.started 64 Rattle.rand_pcg.specs.Pcg.multiplier_64 seed (Rattle.rand_pcg.specs.Lcg.increment_of 64 a.stream)
+      → IsCaller me (tok z me made [] None false false false 0 false) (Rattle.random_pick.specs.CallerDraws.words_of g) × (slot_at me.0.roll made ≡ a.slot)
+  fresh z o a v R J seed g me made vr vo e len few small seeds made_by =
+      let role : me.0.role ≡ Caller made = ap (λ (m : Me (Option T) View). m.0.role) e ∙ (ap Rattle.claim_rule.specs.Rule.dealt_role vr ∙ ap Caller len) in
+      let roll : me.0.roll ≡ R ++ a ∷ [] = ap (λ (m : Me (Option T) View). m.0.roll) e ∙ ap (λ (r : Role). Rattle.claim_rule.specs.Rule.roll_of r ++ a ∷ []) vr in
+      let opening : me.0.opening ≡ o = ap (λ (m : Me (Option T) View). m.0.opening) e ∙ vo in
+      let seen : me.0.seen ≡ [] = ap (λ (m : Me (Option T) View). m.0.seen) e in
+      let longer_roll : length me.0.roll ≡ length R + 1 = ap length roll ∙ length-append R (a ∷ []) in
+      let known : made < length me.0.roll = omega arith in (
+        record {
+          ready = record { role = role; prepared = λ s q. refl; whole = λ s q. ap (λ (l : List Entry). (configuration_of s l).now.demand) seen };
+          legal = λ s q. ap (Rattle.heap_model.specs.History.is_legal s) seen;
+          slots = ap (λ (m : Me (Option T) View). m.1) e;
+          at = λ s q. subst (λ (l : List Entry). IsAt (configuration_of s l) made None false 0) (sym seen) (record {
+            entered = refl;
+            turning = refl;
+            owns = refl;
+            locks = refl;
+            hands = refl;
+            begun = λ x. absurd (false≢true x);
+            pends = λ c x. absurd (none_some c x);
+            searches = refl;
+            stage = refl;
+            demand = refl;
+          });
+          known = known;
+          few = subst (λ (x : Opening). made < x.limits.callers) (sym opening) (omega arith);
+          small = subst (λ (x : Opening). x.limits.callers < 65536) (sym opening) (omega arith);
+          few_prepared = omega arith;
+          alone = λ _. refl;
+          marks = ap (λ (l : List Entry). Rattle.heap_gate.specs.Token.marks_of (own made l ++ [])) seen;
+          outside = λ _. refl;
+          draws = λ s q. Rattle.random_pick.proofs.DrawLemmas.is_made s made seed a.stream g
+              (q.seed ∙ (ap (λ (x : Opening). x.seed) opening ∙ sym seeds))
+              (q.stream made known ∙ (ap (λ (l : List Assignment). Rattle.claim_rule.specs.Entries.stream_at l made) roll ∙ (ap (Rattle.claim_rule.specs.Entries.stream_at (R ++ a ∷ [])) (sym len) ∙ stream_last a R)))
+              made_by;
+        },
+        ap (λ (l : List Assignment). slot_at l made) roll ∙ (ap (slot_at (R ++ a ∷ [])) (sym len) ∙ slot_last a R),
+      )

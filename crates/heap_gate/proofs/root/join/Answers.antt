@@ -1,0 +1,52 @@
+use Rattle.std.proofs.Common.{◌≡◌, ◌∙◌, ◌+◌, ◌/◌, ◌*◌, ◌==◌, ◌||◌, ℕ, Bool, List, [], ◌∷◌, ◌++◌, true, false, cond, None, Some, refl, sym, subst, ap, Option, arith, eq-eqb, ne_eqb}
+use Rattle.heap_model.specs.declared.Act.{Act}
+use Rattle.heap_model.specs.declared.Act.TheVariants as acts
+use Rattle.heap_model.specs.declared.Call.{Call}
+use Rattle.heap_model.specs.declared.Entry.{Entry}
+use Rattle.heap_model.specs.declared.What.TheVariants as whats
+use Rattle.heap_model.specs.State.{Setting}
+use Rattle.claim_rule.specs.declared.views.View.{View}
+use Rattle.claim_rule.specs.Entries.{entry, slot_at, is_by, IsSettingOf}
+use Rattle.claim_rule.specs.Plays.{Goes}
+use Rattle.claim_rule.proofs.Gate.{one_by}
+use Rattle.random_pick.specs.CallerDraws.{words_of}
+use mathlib.Core.Option.{none}
+use Rattle.atomic_table.specs.Table.{Me, Step, step}
+use Rattle.claim_rule.specs.declared.views.Lead.{Lead}
+use Rattle.claim_rule.specs.declared.views.Opening.{Opening}
+use Rattle.heap_model.specs.History.{configuration_after, configuration_of}
+use Rattle.heap_gate.specs.Token.{Token, RootToken, IsCaller, IsRoot, IsAt, IsIdle, HasJoined, root_token, joined_of, roll_in}
+use Rattle.heap_gate.proofs.Tokens.{tok}
+use Rattle.heap_gate.proofs.Meeting.{root_taken, root_joined, idle_of}
+use Rattle.heap_gate.proofs.root.join.Goals as goal
+
+pub hear-requires-clause-root : goal.hear-requires-clause-root
+hear-requires-clause-root g c =
+    let r = c.root.inside in let i = c.c.inside in
+    (_, root_taken r.place.me c.take_in.new.place.me i.place.me.0 r.made i.number c.root.invariant c.c.invariant.0.ready.role c.take_in.ensures.1)
+
+both : (g : _) (c : goal.After-hear g) → let r = c.root.inside in let i = c.c.inside in IsRoot c.hear.new.place.me r.made × HasJoined (root_token r.place.table_id r.place.me) (tok i.place.table_id i.place.me i.number i.prepared.items i.pending i.compacts i.locked i.inside i.depth i.drawn) (root_token c.hear.new.place.table_id c.hear.new.place.me)
+both g c =
+    let r = c.root.inside in let i = c.c.inside in
+    let st : Step (Option g.row.T.Denot) = step c.heap.inside.table.shared.table_id.slots 0 0 0 none in
+    let inside : i.inside ≡ false = ap (λ (t : Token). t.inside) c.c.view_is ∙ c.requires.outside in
+    let depth : i.depth ≡ 0 = ap (λ (t : Token). t.depth) c.c.view_is ∙ c.requires.free in
+    let prepared : i.prepared.items ≡ [] = ap (λ (t : Token). t.prepared) c.c.view_is ∙ c.requires.prepared in
+    let opening : r.place.me.0.opening ≡ i.place.me.0.opening = ap (λ (t : RootToken). t.opening) c.root.view_is ∙ (c.requires.openings.0 ∙ (sym c.requires.openings.1 ∙ ap (λ (t : Token). t.opening) (sym c.c.view_is))) in
+    root_joined r.place.table_id c.hear.new.place.table_id (tok i.place.table_id i.place.me i.number i.prepared.items i.pending i.compacts i.locked i.inside i.depth i.drawn) r.place.me c.take_in.new.place.me c.hear.new.place.me i.place.me.0 r.made c.hear.ensures.told.0 st
+    (c.hear.ensures.table ∙ c.take_in.ensures.0) c.root.invariant c.c.invariant.0.ready.role refl refl c.take_in.ensures.1 c.hear.ensures.told.1
+    (λ s q.
+    let at = c.c.invariant.0.at s (subst (λ (o : Opening). IsSettingOf o i.place.me.0.roll s) opening q) in
+    idle_of (configuration_of s i.place.me.0.seen) i.number i.pending
+    (subst (λ (x : List Entry). IsAt (configuration_after s (configuration_of s i.place.me.0.seen) x) i.number i.pending false 0) prepared
+    (subst (λ (d : ℕ). IsAt (configuration_after s (configuration_of s i.place.me.0.seen) i.prepared.items) i.number i.pending false d) depth
+    (subst (λ (b : Bool). IsAt (configuration_after s (configuration_of s i.place.me.0.seen) i.prepared.items) i.number i.pending b i.depth) inside at))))
+
+pub invariant_of-root : goal.invariant_of-root
+invariant_of-root g c = (both g c).0
+
+pub returns : goal.returns
+returns g c =
+    let P : RootToken → Type 0 = λ t. HasJoined t c.args.c (root_token c.hear.new.place.table_id c.hear.new.place.me) in
+    let Q : Token → Type 0 = λ t. HasJoined (root_token c.root.inside.place.table_id c.root.inside.place.me) t (root_token c.hear.new.place.table_id c.hear.new.place.me) in
+    subst P c.root.view_is (subst Q c.c.view_is (both g c).1)

@@ -1,0 +1,40 @@
+//! The heap that threads share.
+ghost use Rattle.std.specs.Prelude.{◌≡◌};
+
+use atomic_table::Table;
+use claim_rule::{HeapRule, Opening, Stands, View};
+use heap_model::Limits;
+use std::alloc::Global;
+use std::marker::Model;
+
+/// A heap. Contracts see which table it has, and what it was opened with.
+pub struct Heap<T: Stands> {
+    pub(crate) table: Table<Option<T>, View, Opening, HeapRule<T>, Global>,
+    pub(crate) opening: Opening,
+}
+
+impl<T: Stands> Model for Heap<T> {
+    ghost use Rattle.heap_gate.specs.Token.{HeapToken, IsHeap};
+
+    ghost Value = { HeapToken };
+
+    ghost view = { λ h. record { table = h.table.shared.table_id; opening = h.opening } };
+
+    ghost invariant = { λ h. IsHeap h.table.shared.table_id h.table.shared.key h.opening };
+}
+
+impl<T: Stands> Heap<T> {
+    /// The limits that the heap was opened with.
+    pub fn limits(&self) -> Limits
+        ensures { result ≡ self.now.opening.limits }
+    {
+        self.opening.limits
+    }
+
+    /// The seed that the heap was opened with.
+    pub fn seed(&self) -> u64
+        ensures { result ≡ self.now.opening.seed }
+    {
+        self.opening.seed
+    }
+}

@@ -1,0 +1,124 @@
+//! Each step of a caller on the table, with the entries that it carries.
+ghost use Rattle.std.specs.Prelude.{◌≡◌, ℕ, ◌+◌, ◌*◌, ◌<◌, []};
+ghost use mathlib.Core.Option.{none};
+ghost use Rattle.atomic_table.specs.Table.{step};
+ghost use Rattle.heap_model.specs.State.{Setting};
+ghost use Rattle.claim_rule.specs.Entries.{IsSettingOf};
+ghost use Rattle.claim_rule.specs.Rule.{IsReady, ready_after};
+ghost use Rattle.claim_rule.specs.Steps.{MayPass, MayGoOut, MayTryLock, MayGiveUp};
+ghost use Rattle.claim_rule.specs.Plays.{looked, entered, left, locked, unlocked, number_of};
+
+use arrayvec::ArrayVec;
+use atomic_table::{Seat, Shared};
+use claim_rule::{
+    Carried, Enters, GATE, HeapRule, Leaves, Locks, Looks, MADE, Opening, Stands, Unlocks, View,
+};
+use heap_model::{Act, Entry};
+use std::marker::Model;
+
+pub(crate) type Top<T> = Shared<Option<T>, View, Opening, HeapRule<T>>;
+
+pub(crate) type Place<T> = Seat<Option<T>, View>;
+
+pub(crate) type Prepared = ArrayVec<Slip, 16>;
+
+// A prepared entry.
+#[derive(Clone, Copy)]
+pub(crate) struct Slip {
+    pub(crate) entry: Entry,
+}
+
+impl Model for Slip {
+    ghost use Rattle.heap_model.specs.declared.Entry.{Entry};
+
+    ghost Value = { Entry };
+
+    ghost view = { λ s. s.entry };
+
+    ghost inverse = { λ e. record { entry = e } };
+}
+
+impl Default for Slip {
+    fn default() -> Self {
+        Slip {
+            entry: Entry {
+                caller: 0,
+                act: Act::Enter,
+            },
+        }
+    }
+}
+
+// The entries are those of the caller, for the proof alone.
+pub(crate) fn look_as<T: Stands, E: Carried>(
+    top: &Top<T>,
+    place: &mut Place<T>,
+    _prepared: &Prepared,
+)
+    requires table { (place.old.table_id ≡ top.now.table_id) × (1 < top.now.table_id.words) }
+    requires ready { IsReady (number_of place.old.me.0.role) place.old.me.0 E.entries }
+    ensures table { place.new.table_id ≡ place.old.table_id }
+    ensures told { (n : ℕ) × looked E.entries (step top.now.table_id.slots 0 0 0 none) place.old.me n place.new.me }
+{
+    top.load::<Looks<E>>(place, MADE);
+}
+
+pub(crate) fn enter_as<T: Stands, E: Carried>(
+    top: &Top<T>,
+    place: &mut Place<T>,
+    _prepared: &Prepared,
+) -> u64
+    requires table { (place.old.table_id ≡ top.now.table_id) × (1 < top.now.table_id.words) }
+    requires ready { IsReady (number_of place.old.me.0.role) place.old.me.0 E.entries }
+    requires may { (s : Setting) → IsSettingOf place.old.me.0.opening place.old.me.0.roll s → MayPass (ready_after s place.old.me.0 E.entries) (number_of place.old.me.0.role) }
+    ensures table { place.new.table_id ≡ place.old.table_id }
+    ensures told { entered E.entries (step top.now.table_id.slots 1 1 0 none) place.old.me result place.new.me }
+{
+    top.fetch_add::<Enters<E>>(place, GATE, 1)
+}
+
+pub(crate) fn leave_as<T: Stands, E: Carried>(
+    top: &Top<T>,
+    place: &mut Place<T>,
+    _prepared: &Prepared,
+)
+    requires table { (place.old.table_id ≡ top.now.table_id) × (1 < top.now.table_id.words) }
+    requires ready { IsReady (number_of place.old.me.0.role) place.old.me.0 E.entries }
+    requires may { (s : Setting) → IsSettingOf place.old.me.0.opening place.old.me.0.roll s → MayGoOut (ready_after s place.old.me.0 E.entries) (number_of place.old.me.0.role) }
+    ensures table { place.new.table_id ≡ place.old.table_id }
+    ensures told { (n : ℕ) × left E.entries (step top.now.table_id.slots 1 1 0 none) place.old.me n place.new.me }
+{
+    top.fetch_sub::<Leaves<E>>(place, GATE, 1);
+}
+
+pub(crate) fn lock_as<T: Stands, E: Carried>(
+    top: &Top<T>,
+    place: &mut Place<T>,
+    _prepared: &Prepared,
+    tag: u64,
+) -> u64
+    requires table { (place.old.table_id ≡ top.now.table_id) × (1 < top.now.table_id.words) }
+    requires tag { tag ≡ 65536 * (number_of place.old.me.0.role + 1) }
+    requires ready { IsReady (number_of place.old.me.0.role) place.old.me.0 E.entries }
+    requires may { (s : Setting) → IsSettingOf place.old.me.0.opening place.old.me.0.roll s → MayTryLock (ready_after s place.old.me.0 E.entries) (number_of place.old.me.0.role) }
+    ensures table { place.new.table_id ≡ place.old.table_id }
+    ensures told { locked E.entries (step top.now.table_id.slots 1 0 tag none) place.old.me result place.new.me }
+{
+    top.compare_exchange::<Locks<E>>(place, GATE, 0, tag)
+}
+
+pub(crate) fn unlock_as<T: Stands, E: Carried>(
+    top: &Top<T>,
+    place: &mut Place<T>,
+    _prepared: &Prepared,
+    tag: u64,
+)
+    requires table { (place.old.table_id ≡ top.now.table_id) × (1 < top.now.table_id.words) }
+    requires tag { tag ≡ 65536 * (number_of place.old.me.0.role + 1) }
+    requires ready { IsReady (number_of place.old.me.0.role) place.old.me.0 E.entries }
+    requires may { (s : Setting) → IsSettingOf place.old.me.0.opening place.old.me.0.roll s → MayGiveUp (ready_after s place.old.me.0 E.entries) (number_of place.old.me.0.role) }
+    ensures table { place.new.table_id ≡ place.old.table_id }
+    ensures told { (n : ℕ) × unlocked E.entries (step top.now.table_id.slots 1 tag 0 none) place.old.me n place.new.me }
+{
+    top.fetch_sub::<Unlocks<E>>(place, GATE, tag);
+}
