@@ -21,6 +21,7 @@ use Rattle.claim_rule.specs.Home.{LayerState, AreHome}
 use Rattle.claim_rule.specs.Entries.{IsSettingOf, IsLegalWith, is_by, is_named, entry}
 use Rattle.claim_rule.specs.Rule.{KnowsAs, IsRuled, IsReady, view_of}
 use Rattle.claim_rule.specs.Plays.{Goes, Adds, number_of}
+use Rattle.claim_rule.specs.Laws.{ActsLaw}
 use Rattle.claim_rule.proofs.Lists.{after-append, follow_join, follow_parts, legal_parts, legal_from, none_between, by-append, named-append, named_by, prefix_self, prefix_more, setting_less}
 use Rattle.claim_rule.proofs.Counts.{IsCounted, counted_after, counted_first, counted_few, owner_few}
 use Rattle.claim_rule.proofs.Prepared.{IsCarried, carried, prepared_by, homes_kept}
@@ -105,14 +106,14 @@ module _ {T : Type 0} (stands : T → LayerState) (o : Opening) where
         prepared_by s n (configuration_of s v.seen) es (h.prepared s q)
 
     -- The law that each kind of step ends with: its own entries are ds.
-    pub acts : (c : List (ℕ × Option T)) (i x : ℕ) (a : Act (Option T)) (ds : List Entry) → is_by n ds ≡ true → ((g : Lag) → lag_from g ds ≡ g)
+    pub leaves : (c : List (ℕ × Option T)) (i x : ℕ) (a : Act (Option T)) (ds : List Entry) → is_by n ds ≡ true
         → ((s : Setting) → IsSettingOf o r.lead.roll s →
         (may_all_follow s (configuration_after s (configuration_of s r.log) es) ds ≡ true)
         × ((configuration_after s (configuration_after s (configuration_of s r.log) es) ds).now.demand ≡ Nothing)
-        × AreAllShown o.limits r.lead.counted (configuration_after s (configuration_after s (configuration_of s r.log) es) ds) (lag_of r.log) (set st.words i x)
+        × AreAllShown o.limits r.lead.counted (configuration_after s (configuration_after s (configuration_of s r.log) es) ds) (lag_from (lag_of r.log) ds) (set st.words i x)
         × AreHome stands o (configuration_after s (configuration_after s (configuration_of s r.log) es) ds).state (homes_after st.homes c a))
         → (w : View) × IsRuled stands o (stepped st i x id c w a) × Goes n v w es ds
-    acts c i x a ds bd lag shows =
+    leaves c i x a ds bd shows =
         let p = role_of st r id n v at h.role in
         let k = r.known id v at in
         let all : List Entry = es ++ ds in
@@ -121,8 +122,8 @@ module _ {T : Type 0} (stands : T → LayerState) (o : Opening) where
         let w : View = sees v r.lead.roll log in
         let behind : (s : Setting) → configuration_of s log ≡ configuration_after s (configuration_after s (configuration_of s r.log) es) ds =
         λ s. after-append s first_configuration r.log all ∙ after-append s (configuration_of s r.log) es ds in
-        let lags : (s : Setting) → IsSettingOf o r.lead.roll s → lag_of log ≡ lag_of r.log =
-        λ s q. lag-append no_lag r.log all ∙ (lag-append (lag_of r.log) es ds ∙ (ap (λ (g : Lag). lag_from g ds) ((before s q).carried.lag (lag_of r.log)) ∙ lag (lag_of r.log))) in
+        let lags : (s : Setting) → IsSettingOf o r.lead.roll s → lag_of log ≡ lag_from (lag_of r.log) ds =
+        λ s q. lag-append no_lag r.log all ∙ (lag-append (lag_of r.log) es ds ∙ ap (λ (g : Lag). lag_from g ds) ((before s q).carried.lag (lag_of r.log))) in
         let legal : (s : Setting) → IsSettingOf o r.lead.roll s → is_legal s log ≡ true =
         λ s q. legal_from s log
         (follow_join s first_configuration r.log all (legal_parts s r.log (r.shown s q).legal).0 (follow_join s (configuration_of s r.log) es ds (before s q).carried.follows (shows s q).0))
@@ -139,6 +140,7 @@ module _ {T : Type 0} (stands : T → LayerState) (o : Opening) where
               dealt = r.numbers.dealt;
               counted = r.numbers.counted;
               joined = r.numbers.joined;
+              once = r.numbers.once;
               names = named-append (length r.lead.roll) r.log all r.numbers.names (named_by (length r.lead.roll) n all p.0 ball);
             };
             shown = λ s q. record {
@@ -166,6 +168,28 @@ module _ {T : Type 0} (stands : T → LayerState) (o : Opening) where
             role = refl;
           },
         )
+
+    -- .. where they make nothing that a word may lag behind
+    pub acts : (c : List (ℕ × Option T)) (i x : ℕ) (a : Act (Option T)) (ds : List Entry) → is_by n ds ≡ true → ((g : Lag) → lag_from g ds ≡ g)
+        → ((s : Setting) → IsSettingOf o r.lead.roll s →
+        (may_all_follow s (configuration_after s (configuration_of s r.log) es) ds ≡ true)
+        × ((configuration_after s (configuration_after s (configuration_of s r.log) es) ds).now.demand ≡ Nothing)
+        × AreAllShown o.limits r.lead.counted (configuration_after s (configuration_after s (configuration_of s r.log) es) ds) (lag_of r.log) (set st.words i x)
+        × AreHome stands o (configuration_after s (configuration_after s (configuration_of s r.log) es) ds).state (homes_after st.homes c a))
+        → (w : View) × IsRuled stands o (stepped st i x id c w a) × Goes n v w es ds
+    acts c i x a ds bd lag shows =
+        leaves c i x a ds bd (λ s q.
+        let t = shows s q in
+        let m : Configuration = configuration_after s (configuration_after s (configuration_of s r.log) es) ds in
+        (t.0, t.1, subst (λ (g : Lag). AreAllShown o.limits r.lead.counted m g (set st.words i x)) (sym (lag (lag_of r.log))) t.2, t.3))
+
+-- the law, as the contract has it
+pub acts_law : {T : Type 0} (stands : T → LayerState) → ActsLaw stands
+acts_law stands o st r id n v es ds c i x a at h by shows =
+    leaves stands o st r id n v es at h c i x a ds by (λ s q.
+    let b = before stands o st r id n v es at h s q in
+    let t = shows s q (record { agrees = b.carried.agrees; whole = b.whole; words = b.words; home = b.home; gate = b.gate; few = b.few; owner = b.owner }) in
+    (t.follows, t.whole, t.shown, t.home))
 
 -- with the number that the view names
 pub adds_of : {T : Type 0} (m m' : Me (Option T) View) (n : ℕ) (es : List Entry) (d : Deed) → m.0.role ≡ Caller n → Goes n m.0 m'.0 es (entry n d ∷ []) → Adds es d m m'

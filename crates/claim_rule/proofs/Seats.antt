@@ -1,5 +1,5 @@
 -- The laws of the steps that count callers, cut seats in two and join them; the rule at the start and at the end.
-use Rattle.std.proofs.Common.{◌≡◌, ◌≢◌, ◌⊎◌, inl, inr, ⊎_elim, ℕ, zero, suc, ◌+◌, ◌*◌, ◌%◌, ◌^◌, ◌<◌, ◌≤◌, Bool, true, false, ◌||◌, ◌==◌, cond, List, [], ◌∷◌, ◌++◌, length, get_or, set, refl, sym, ap, ◌∙◌, subst, arith, Option, Some, eq-eqb, ne_eqb, length-append}
+use Rattle.std.proofs.Common.{◌≡◌, ◌≢◌, ◌⊎◌, inl, inr, ⊎_elim, ℕ, zero, suc, ◌+◌, ◌*◌, ◌%◌, ◌^◌, ◌<◌, ◌≤◌, Bool, true, false, not, ◌||◌, ◌==◌, cond, List, [], ◌∷◌, ◌++◌, length, get_or, set, refl, sym, ap, ◌∙◌, subst, arith, Option, Some, eq-eqb, ne_eqb, length-append}
 use Rattle.std.specs.Prelude.{nat_lt}
 use Rattle.std.proofs.lemmas.Bool.{and_parts, and_from, eqb-true, cases_Bool, or_cases, false≢true, lt-ltb}
 use Rattle.std.proofs.lemmas.List.{append-nil}
@@ -23,14 +23,14 @@ use Rattle.claim_rule.specs.Places.{word_count}
 use Rattle.claim_rule.specs.Shown.{AreAllShown, lag_of, no_lag}
 use Rattle.claim_rule.specs.Home.{LayerState, StandsForVs, StandsForBack, StandsForLarge}
 use Rattle.claim_rule.specs.Entries.{IsSettingOf, IsLegalWith, is_named, have_slots}
-use Rattle.claim_rule.specs.Rule.{IsSeen, KnowsAs, Knows, IsRuled, longer, zero_words, first_lead, first_view, spent_view, relay, next_lead, dealing, dealing_role, dealt, dealt_role, roll_of, told, taken_in, joined_role, view_of}
+use Rattle.claim_rule.specs.Rule.{IsSeen, are_distinct, KnowsAs, Knows, IsRuled, longer, zero_words, first_lead, first_view, spent_view, relay, next_lead, dealing, dealing_role, dealt, dealt_role, roll_of, told, taken_in, joined_role, view_of}
 use Rattle.claim_rule.specs.Plays.{heard_all, agreed, numbered, number_of}
 use Rattle.claim_rule.proofs.Lists.{prefix_self, prefix_nil, prefix_more, longer_begins, longer_one, own_between, none_between, own_unnamed, named_more, named_rest, none_at_all, setting_less}
 use Rattle.claim_rule.proofs.Words.{all_made, all_kept}
 use Rattle.claim_rule.proofs.Known.{swapped, grown, seen_none, seen_still, knows_still, nobody}
 
 abbrev quiet_role : Role → Role
-quiet_role (Root q) = Root (record { counted = q.counted; roll = q.roll; joined = q.joined; last = 0 })
+quiet_role (Root q) = Root (record { counted = q.counted; roll = q.roll; joined = q.joined; lists = q.lists; last = 0 })
 quiet_role r = r
 
 abbrev hearing : View → List Assignment → List Entry → View
@@ -70,9 +70,9 @@ module _ {T : Type 0} (stands : T → LayerState) (o : Opening) where
       let s0 = Rattle.claim_rule.specs.Entries.setting_of o r.lead.roll in
       let made : x ≡ q.counted = (r.shown s0 (Rattle.claim_rule.proofs.Advance.some_setting o r.lead.roll)).words.made_is ∙ ap (λ (l : Lead). l.counted) (sym p.0) in
       let same : q.counted ≡ r.lead.counted = ap (λ (l : Lead). l.counted) p.0 in
-      let lead : Lead = record { counted = r.lead.counted + 1; roll = r.lead.roll; joined = r.lead.joined; last = r.lead.last } in
-      let lead' : Lead = record { counted = q.counted + 1; roll = q.roll; joined = q.joined; last = q.last } in
-      let alike : lead' ≡ lead = ap (λ (l : Lead). record { counted = l.counted + 1; roll = l.roll; joined = l.joined; last = l.last }) p.0 in
+      let lead : Lead = record { counted = r.lead.counted + 1; roll = r.lead.roll; joined = r.lead.joined; lists = r.lead.lists; last = r.lead.last } in
+      let lead' : Lead = record { counted = q.counted + 1; roll = q.roll; joined = q.joined; lists = q.lists; last = q.last } in
+      let alike : lead' ≡ lead = ap (λ (l : Lead). record { counted = l.counted + 1; roll = l.roll; joined = l.joined; lists = l.lists; last = l.last }) p.0 in
       let w : View = view_of me.0.opening (Root lead') me.0.roll me.0.seen me.0.heard_roll me.0.heard in
       let y : (x + 1) % 18446744073709551616 ≡ r.lead.counted + 1 = omega arith in (
         w,
@@ -83,7 +83,7 @@ module _ {T : Type 0} (stands : T → LayerState) (o : Opening) where
           lead = lead;
           top = r.top;
           owner = r.owner;
-          numbers = record { limits = f.limits; slots = f.slots; dealt = omega arith; counted = omega arith; joined = f.joined; names = f.names };
+          numbers = record { limits = f.limits; slots = f.slots; dealt = omega arith; counted = omega arith; joined = f.joined; once = f.once; names = f.names };
           shown = λ s e. let t = r.shown s e in record {
             legal = t.legal;
             words = subst (λ (n : ℕ). AreAllShown o.limits n (configuration_of s r.log) (lag_of r.log) (set st.words 0 ((x + 1) % 18446744073709551616))) y (all_made o.limits r.lead.counted (configuration_of s r.log) (lag_of r.log) st.words ((x + 1) % 18446744073709551616) t.words);
@@ -100,7 +100,7 @@ module _ {T : Type 0} (stands : T → LayerState) (o : Opening) where
           roll = refl;
           opening = refl;
           slots = refl;
-          role = λ q' e. let i : q ≡ q' = cc (is, e) in (made ∙ ap (λ (l : Lead). l.counted) i, ap (λ (l : Lead). Root (record { counted = l.counted + 1; roll = l.roll; joined = l.joined; last = l.last })) i);
+          role = λ q' e. let i : q ≡ q' = cc (is, e) in (made ∙ ap (λ (l : Lead). l.counted) i, ap (λ (l : Lead). Root (record { counted = l.counted + 1; roll = l.roll; joined = l.joined; lists = l.lists; last = l.last })) i);
         },
       )
 
@@ -110,7 +110,7 @@ module _ {T : Type 0} (stands : T → LayerState) (o : Opening) where
       let p = root_of st r id me.0 q at is in
       let k = r.known id me.0 at in
       let f = r.numbers in
-      let lead : Lead = record { counted = r.lead.counted; roll = r.lead.roll; joined = r.lead.joined; last = 0 } in
+      let lead : Lead = record { counted = r.lead.counted; roll = r.lead.roll; joined = r.lead.joined; lists = r.lead.lists; last = 0 } in
       let w : View = hearing me.0 r.lead.roll r.log in (
         w,
         keeps,
@@ -120,14 +120,14 @@ module _ {T : Type 0} (stands : T → LayerState) (o : Opening) where
           lead = lead;
           top = r.top;
           owner = r.owner;
-          numbers = record { limits = f.limits; slots = f.slots; dealt = f.dealt; counted = f.counted; joined = f.joined; names = f.names };
+          numbers = record { limits = f.limits; slots = f.slots; dealt = f.dealt; counted = f.counted; joined = f.joined; once = f.once; names = f.names };
           shown = λ s e. let t = r.shown s e in record { legal = t.legal; words = all_kept o.limits r.lead.counted (configuration_of s r.log) (lag_of r.log) st.words i t.words; home = t.home };
           known = swapped (Knows o r.log r.lead r.top r.owner) (Knows o r.log lead r.top r.owner) st.views id w
               (λ j v ne kn. knows_still o r.log r.lead lead r.top r.owner r.owner j (λ e. ne (sym e ∙ p.1)) (prefix_self r.lead.roll) (λ m a b c. (a, b, c)) v kn) r.known
               (record {
                 seen = seen_still o r.log r.lead lead r.lead.roll r.log (prefix_self r.lead.roll) (seen_whole stands o st r);
                 heard = seen_none o r.log lead;
-                role = subst (λ (ro : Role). KnowsAs o r.log lead r.top r.owner id w (quiet_role ro)) (sym is) (ap (λ (l : Lead). record { counted = l.counted; roll = l.roll; joined = l.joined; last = 0 }) p.0, p.1, (λ n t. inr refl), (λ n t. absurd (omega arith)), p.4);
+                role = subst (λ (ro : Role). KnowsAs o r.log lead r.top r.owner id w (quiet_role ro)) (sym is) (ap (λ (l : Lead). record { counted = l.counted; roll = l.roll; joined = l.joined; lists = l.lists; last = 0 }) p.0, p.1, (λ n t. inr refl), (λ n t. absurd (omega arith)), p.4);
               });
         },
         record {
@@ -141,6 +141,7 @@ module _ {T : Type 0} (stands : T → LayerState) (o : Opening) where
           roll = λ q' e. sym (ap (λ (l : Lead). l.roll) (root_of st r id me.0 q' at e).0);
           names = λ q' e. subst (λ (l : Lead). is_named (length l.roll) r.log ≡ true) (sym (root_of st r id me.0 q' at e).0) f.names;
           kept = λ q' e n t. let z = root_of st r id me.0 q' at e in subst (λ (l : Lead). (l.last ≡ n + 1) ⊎ (own n r.log ≡ own n me.0.seen)) (sym z.0) (z.2 n (subst (λ (l : Lead). is_among n l.joined ≡ true) z.0 t));
+          once = λ q' e. subst (λ (l : Lead). are_distinct l.joined ≡ true) (sym (root_of st r id me.0 q' at e).0) f.once;
           last = λ q' e n t. let z = root_of st r id me.0 q' at e in (z.3 n (subst (λ (l : Lead). l.last ≡ n + 1) z.0 t)).1;
         },
       )
@@ -254,6 +255,7 @@ module _ {T : Type 0} (stands : T → LayerState) (o : Opening) where
           dealt = omega arith;
           counted = f.counted;
           joined = λ n t. let l = f.joined n t in omega arith;
+          once = f.once;
           names = named_more d (length lead.roll) r.log (omega arith) f.names;
         };
         shown = λ s e. let t = r.shown s (setting_less o r.lead.roll lead.roll s more e) in record { legal = t.legal; words = t.words; home = t.home };
@@ -281,7 +283,7 @@ module _ {T : Type 0} (stands : T → LayerState) (o : Opening) where
       let far : get_elem? st.views other ≡ some w = sym (set_else st.views id other (taken_in v w) ne) ∙ at' in
       let u = r.known other w far in
       let c = subst (KnowsAs o r.log r.lead r.top r.owner other w) is' u.role in
-      let lead : Lead = record { counted = r.lead.counted; roll = r.lead.roll; joined = n ∷ r.lead.joined; last = n + 1 } in
+      let lead : Lead = record { counted = r.lead.counted; roll = r.lead.roll; joined = n ∷ r.lead.joined; lists = w.seen ∷ r.lead.lists; last = n + 1 } in
       let Q : ℕ → View → Type 0 = λ j x. j ≢ other → Knows o r.log lead r.top r.owner j x in
       record {
         log = r.log;
@@ -294,6 +296,7 @@ module _ {T : Type 0} (stands : T → LayerState) (o : Opening) where
           dealt = f.dealt;
           counted = f.counted;
           joined = λ m t. ⊎_elim (λ (e : n ≡ m). let lt = c.0 in omega arith) (λ (h : is_among m r.lead.joined ≡ true). f.joined m h) (at_joined n m r.lead.joined t);
+          once = and_from (not (is_among n r.lead.joined)) (are_distinct r.lead.joined) (ap not c.2) f.once;
           names = f.names;
         };
         shown = λ s e. let t = r.shown s e in record { legal = t.legal; words = t.words; home = t.home };
@@ -304,8 +307,8 @@ module _ {T : Type 0} (stands : T → LayerState) (o : Opening) where
             (λ no. record {
               seen = seen_still o r.log r.lead lead v.roll v.seen (prefix_self r.lead.roll) k.seen;
               heard = seen_still o r.log r.lead lead w.roll w.seen (prefix_self r.lead.roll) u.seen;
-              role = subst (λ (z : Role × Role). KnowsAs o r.log lead r.top r.owner id (view_of v.opening (joined_role z.0 z.1) v.roll v.seen w.roll w.seen) (joined_role z.0 z.1)) (λ i. (sym is i, sym is' i)) (
-                ap (λ (x : Lead). record { counted = x.counted; roll = x.roll; joined = n ∷ x.joined; last = n + 1 }) p.0,
+              role = subst (λ (z : Role × Role). KnowsAs o r.log lead r.top r.owner id (view_of v.opening (joined_role w.seen z.0 z.1) v.roll v.seen w.roll w.seen) (joined_role w.seen z.0 z.1)) (λ i. (sym is i, sym is' i)) (
+                ap (λ (x : Lead). record { counted = x.counted; roll = x.roll; joined = n ∷ x.joined; lists = w.seen ∷ x.lists; last = n + 1 }) p.0,
                 p.1,
                 (λ m t. ⊎_elim
                     (λ (e : n ≡ m). inl (ap (λ (x : ℕ). x + 1) e))
@@ -369,7 +372,7 @@ module _ {T : Type 0} (stands : T → LayerState) (o : Opening) where
     lead = first_lead;
     top = 0;
     owner = λ _. 0;
-    numbers = record { limits = valid; slots = refl; dealt = omega arith; counted = omega arith; joined = λ n h. absurd (false≢true h); names = refl };
+    numbers = record { limits = valid; slots = refl; dealt = omega arith; counted = omega arith; joined = λ n h. absurd (false≢true h); once = refl; names = refl };
     shown = λ s e. record {
       legal = refl;
       words = shown_first o.limits;

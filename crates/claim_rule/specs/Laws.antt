@@ -1,27 +1,28 @@
 -- The laws, in words of the table: a step that is allowed keeps the rule whatever the table is by then, and tells its seat what its kind says.
-use Rattle.std.specs.Prelude.{◌≡◌, ℕ, ◌+◌, ◌-◌, ◌*◌, ◌%◌, ◌^◌, ◌<◌, true, eqb, List, [], ◌∷◌, length, Option, Some}
-use mathlib.Core.Option.{none}
+use Rattle.std.specs.Prelude.{◌≡◌, ℕ, ◌+◌, ◌-◌, ◌*◌, ◌%◌, ◌^◌, ◌<◌, ◌≤◌, true, eqb, List, [], ◌∷◌, length, set, Option, Some}
+use mathlib.Core.Option.{none, some}
+use lib.ListN.{get_elem?}
 use prog.Atomic.{either}
-use Rattle.atomic_table.specs.Table.{Me, step, Allows, Splits, Joins, opening as starting}
+use Rattle.atomic_table.specs.Table.{State, Act, Me, step, stepped, homes_after, Allows, Splits, Joins, opening as starting}
 use Rattle.heap_model.specs.declared.Limits.{Limits}
 use Rattle.heap_model.specs.declared.Entry.{Entry}
 use Rattle.heap_model.specs.Limits.{AreValid}
-use Rattle.heap_model.specs.State.{Setting, opening}
-use Rattle.heap_model.specs.CallState.{Configuration}
-use Rattle.heap_model.specs.History.{configuration_after, may_all_follow}
-use Rattle.heap_model.specs.Agreement.{AgreesFor}
+use Rattle.heap_model.specs.State.{Setting, opening, caller_word}
+use Rattle.heap_model.specs.CallState.{Configuration, Nothing}
+use Rattle.heap_model.specs.History.{configuration_after, configuration_of, may_all_follow}
+use Rattle.heap_model.specs.Agreement.{AgreesFor, GateIsSound}
 use Rattle.claim_rule.specs.declared.views.Assignment.{Assignment}
 use Rattle.claim_rule.specs.declared.views.Opening.{Opening}
 use Rattle.claim_rule.specs.declared.views.Lead.{Lead}
 use Rattle.claim_rule.specs.declared.views.Role.TheVariants.{Caller, Root}
 use Rattle.claim_rule.specs.declared.views.View.{View}
 use Rattle.claim_rule.specs.Places.{Fill, regions, word_count, gate_at, made_word}
-use Rattle.claim_rule.specs.Shown.{Lag, AreAllShown}
+use Rattle.claim_rule.specs.Shown.{Lag, lag_from, lag_of, AreAllShown}
 use Rattle.claim_rule.specs.Home.{LayerState, AreHome, StandsForVs, StandsForBack, StandsForLarge}
-use Rattle.claim_rule.specs.Entries.{IsSettingOf, are_prepared}
+use Rattle.claim_rule.specs.Entries.{IsSettingOf, is_by, are_prepared}
 use Rattle.claim_rule.specs.Rule.{IsRuled, IsReady, ready_after, zero_words, first_view, spent_view, relay, dealing, dealt, told, taken_in}
 use Rattle.claim_rule.specs.Steps.{MayPass, MayGoOut, MayTryLock, MayGiveUp}
-use Rattle.claim_rule.specs.Plays.{looked, heard_all, agreed, numbered, entered, left, locked, unlocked}
+use Rattle.claim_rule.specs.Plays.{Goes, looked, heard_all, agreed, numbered, entered, left, locked, unlocked}
 
 -- No two regions overlap, and together they are all words.
 abbrev pub RegionsFill : Type 0
@@ -45,6 +46,35 @@ module _ {T : Type 0} (stands : T → LayerState) where
   abbrev pub PreparedIsCarried : Type 0
   PreparedIsCarried =
       (s : Setting) (c : ℕ) (m n : Configuration) (es : List Entry) → AgreesFor c m n → m.now.demand ≡ n.now.demand → are_prepared s n c es ≡ true → IsCarriedThrough s c m n es
+
+  module _ (o : Opening) (st : State (Option T) View) (r : IsRuled stands o st) (s : Setting) (m : Configuration) where
+    -- What a caller finds behind the entries that its step carries: what it alone decides is as it has it, and the words and the slots show the
+    -- rest. The owner and those that the gate counts are callers that have a seat.
+    pub record IsFound (n : ℕ) (ready : Configuration) : Type 0 where
+      pub agrees : AgreesFor n m ready
+      pub whole : m.now.demand ≡ Nothing
+      pub words : AreAllShown o.limits r.lead.counted m (lag_of r.log) st.words
+      pub home : AreHome stands o m.state st.homes
+      pub gate : GateIsSound m.state.gate
+      pub few : length m.state.gate.counted ≤ length r.lead.roll
+      pub owner : caller_word m.state.gate.owner ≤ length r.lead.roll
+
+    -- What the step leaves: its own entries may come there, and the words and the slots that it leaves show what is behind them.
+    pub record IsLeft (own_entries : List Entry) (words : List ℕ) (homes : List (mathlib.Core.Option.Option (Option T))) : Type 0 where
+      pub follows : may_all_follow s m own_entries ≡ true
+      pub whole : (configuration_after s m own_entries).now.demand ≡ Nothing
+      pub shown : AreAllShown o.limits r.lead.counted (configuration_after s m own_entries) (lag_from (lag_of r.log) own_entries) words
+      pub home : AreHome stands o (configuration_after s m own_entries).state homes
+
+  -- A step of a caller that finds this and leaves that keeps the rule, and the caller has seen the whole history with its entries behind.
+  abbrev pub ActsLaw : Type 0
+  ActsLaw =
+      (o : Opening) (st : State (Option T) View) (r : IsRuled stands o st) (id n : ℕ) (v : View) (es own_entries : List Entry) (c : List (ℕ × Option T)) (i x : ℕ) (a : Act (Option T))
+      → get_elem? st.views id ≡ some v → IsReady n v es → is_by n own_entries ≡ true
+      → ((s : Setting) → IsSettingOf o r.lead.roll s →
+      IsFound o st r s (configuration_after s (configuration_of s r.log) es) n (ready_after s v es)
+      → IsLeft o st r s (configuration_after s (configuration_of s r.log) es) own_entries (set st.words i x) (homes_after st.homes c a))
+      → (w : View) × IsRuled stands o (stepped st i x id c w a) × Goes n v w es own_entries
 
   -- A new table, whose slots have the states of an empty heap.
   abbrev pub OpenLaw : Type 0

@@ -15,7 +15,7 @@ use Rattle.claim_rule.specs.declared.views.Role.{Role}
 use Rattle.claim_rule.specs.declared.views.Role.TheVariants.{Caller, Root}
 use Rattle.claim_rule.specs.declared.views.View.{View}
 use Rattle.claim_rule.specs.Entries.{IsSettingOf, IsLegalWith, is_named, entry}
-use Rattle.claim_rule.specs.Rule.{longer, ready_after}
+use Rattle.claim_rule.specs.Rule.{are_distinct, longer, ready_after}
 
 -- Behind others' entries and the carried ones the configuration is one that agrees with what n prepared for, and the own entries come behind it.
 pub record GoesIn (s : Setting) (n : ℕ) (v w : View) (es own_entries : List Entry) : Type 0 where
@@ -78,10 +78,11 @@ module _ {T : Type 0} (st : Step (Option T)) (m : Me (Option T) View) (r : ℕ) 
     pub legal : IsLegalWith m'.0.opening m'.0.roll m'.0.seen
     pub slots : m'.1 ≡ m.1
     pub opening : m'.0.opening ≡ m.0.opening
-    pub role : (q : Lead) → m.0.role ≡ Root q → m'.0.role ≡ Root (record { counted = q.counted; roll = q.roll; joined = q.joined; last = 0 })
+    pub role : (q : Lead) → m.0.role ≡ Root q → m'.0.role ≡ Root (record { counted = q.counted; roll = q.roll; joined = q.joined; lists = q.lists; last = 0 })
     pub roll : (q : Lead) → m.0.role ≡ Root q → m'.0.roll ≡ q.roll
     pub names : (q : Lead) → m.0.role ≡ Root q → is_named (length q.roll) m'.0.seen ≡ true
     pub kept : (q : Lead) → m.0.role ≡ Root q → (n : ℕ) → is_among n q.joined ≡ true → (q.last ≡ n + 1) ⊎ (own n m'.0.seen ≡ own n m.0.seen)
+    pub once : (q : Lead) → m.0.role ≡ Root q → are_distinct q.joined ≡ true
     pub last : (q : Lead) → m.0.role ≡ Root q → (n : ℕ) → q.last ≡ n + 1 → own n m'.0.seen ≡ own n m.0.heard
 
   -- a caller takes what it heard of, where that is longer
@@ -105,4 +106,4 @@ module _ {T : Type 0} (st : Step (Option T)) (m : Me (Option T) View) (r : ℕ) 
     pub roll : m'.0.roll ≡ m.0.roll
     pub opening : m'.0.opening ≡ m.0.opening
     pub slots : m'.1 ≡ m.1
-    pub role : (q : Lead) → m.0.role ≡ Root q → (r ≡ q.counted) × (m'.0.role ≡ Root (record { counted = q.counted + 1; roll = q.roll; joined = q.joined; last = q.last }))
+    pub role : (q : Lead) → m.0.role ≡ Root q → (r ≡ q.counted) × (m'.0.role ≡ Root (record { counted = q.counted + 1; roll = q.roll; joined = q.joined; lists = q.lists; last = q.last }))

@@ -1,5 +1,5 @@
 -- The rule: there is one legal history, the words and the slots show the configuration behind it, and each seat has seen a beginning of it.
-use Rattle.std.specs.Prelude.{◌≡◌, ◌⊎◌, ℕ, ◌+◌, ◌<◌, ◌≤◌, true, false, cond, List, [], ◌∷◌, ◌++◌, length, replicate, nat_lt, Option}
+use Rattle.std.specs.Prelude.{◌≡◌, ◌⊎◌, ℕ, ◌+◌, ◌<◌, ◌≤◌, Bool, true, false, not, ◌&&◌, cond, List, [], ◌∷◌, ◌++◌, length, replicate, nat_lt, Option}
 use mathlib.Core.Option.{some}
 use mathlib.Core.List.{IsPrefix}
 use lib.ListN.{get_elem?}
@@ -50,13 +50,18 @@ module _ (o : Opening) (log : List Entry) (lead : Lead) where
 
 ---- The rule
 
--- the numbers: callers that have a seat are counted, and no more than the limits say; each has a slot of the heap
+abbrev pub are_distinct : List ℕ → Bool
+are_distinct [] = true
+are_distinct (n ∷ ns) = not (is_among n ns) && are_distinct ns
+
+-- the numbers: callers that have a seat are counted, and no more than the limits say; each has a slot of the heap, and joins once
 pub record AreNumbered (o : Opening) (lead : Lead) (log : List Entry) : Type 0 where
   pub limits : AreValid o.limits
   pub slots : have_slots o.limits.slots lead.roll ≡ true
   pub dealt : length lead.roll ≤ lead.counted
   pub counted : lead.counted ≤ o.limits.callers
   pub joined : (n : ℕ) → is_among n lead.joined ≡ true → n < length lead.roll
+  pub once : are_distinct lead.joined ≡ true
   pub names : is_named (length lead.roll) log ≡ true
 
 module _ {T : Type 0} (stands : T → LayerState) (o : Opening) (st : State (Option T) View) where
@@ -82,7 +87,7 @@ zero_words n = replicate n 0
 ---- The views of seats
 
 abbrev pub first_lead : Lead
-first_lead = record { counted = 0; roll = []; joined = []; last = 0 }
+first_lead = record { counted = 0; roll = []; joined = []; lists = []; last = 0 }
 
 abbrev pub view_of : Opening → Role → List Assignment → List Entry → List Assignment → List Entry → View
 view_of o role roll seen heard_roll heard =
@@ -99,7 +104,7 @@ abbrev pub relay : View → View
 relay v = view_of v.opening Nobody v.roll v.seen [] []
 
 abbrev pub next_lead : Assignment → Lead → Lead
-next_lead a q = record { counted = q.counted; roll = q.roll ++ a ∷ []; joined = q.joined; last = q.last }
+next_lead a q = record { counted = q.counted; roll = q.roll ++ a ∷ []; joined = q.joined; lists = q.lists; last = q.last }
 
 abbrev pub dealing_role : Assignment → Role → Role
 dealing_role a (Root q) = Root (next_lead a q)
@@ -120,9 +125,10 @@ dealing a v = view_of v.opening (dealing_role a v.role) v.roll v.seen v.heard_ro
 abbrev pub dealt : Assignment → View → View
 dealt a v = view_of v.opening (dealt_role v.role) (roll_of v.role ++ a ∷ []) [] [] []
 
-abbrev pub joined_role : Role → Role → Role
-joined_role (Root q) (Caller n) = Root (record { counted = q.counted; roll = q.roll; joined = n ∷ q.joined; last = n + 1 })
-joined_role r _ = r
+-- the root with a caller that joins with a list
+abbrev pub joined_role : List Entry → Role → Role → Role
+joined_role list (Root q) (Caller n) = Root (record { counted = q.counted; roll = q.roll; joined = n ∷ q.joined; lists = list ∷ q.lists; last = n + 1 })
+joined_role list r _ = r
 
 -- v hears of what w has seen
 abbrev pub told : View → View → View
@@ -130,7 +136,7 @@ told v w = view_of v.opening v.role v.roll v.seen w.roll w.seen
 
 -- .. and the root takes in the caller
 abbrev pub taken_in : View → View → View
-taken_in v w = view_of v.opening (joined_role v.role w.role) v.roll v.seen w.roll w.seen
+taken_in v w = view_of v.opening (joined_role w.seen v.role w.role) v.roll v.seen w.roll w.seen
 
 ---- What a caller has prepared
 

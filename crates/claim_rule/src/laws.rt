@@ -1,6 +1,6 @@
 //! The laws of the rule, each the contract of a function that does nothing.
 
-ghost use Rattle.claim_rule.specs.Laws.{RegionsFill, LargestCount, PreparedIsCarried, OpenLaw, SplitLaw, JoinLaw, LoadLaw, NumberLaw, EnterLaw, LeaveLaw, LockLaw, UnlockLaw};
+ghost use Rattle.claim_rule.specs.Laws.{RegionsFill, LargestCount, PreparedIsCarried, ActsLaw, OpenLaw, SplitLaw, JoinLaw, LoadLaw, NumberLaw, EnterLaw, LeaveLaw, LockLaw, UnlockLaw};
 
 use crate::stands::Stands;
 
@@ -17,6 +17,12 @@ pub fn largest_count()
 /// What a caller has prepared may come behind whatever others did meanwhile, and no word and no slot at home shows it.
 pub fn prepared_is_carried<T: Stands>()
     ensures { PreparedIsCarried T.stands }
+{}
+
+/// The law that each kind of step of a caller comes to: where its own entries may come behind those that it carries, and
+/// the word that it writes and the slots that it leaves show what is behind them, the rule goes on.
+pub fn step_goes_on<T: Stands>()
+    ensures { ActsLaw T.stands }
 {}
 
 /// A new table is ruled.

@@ -19,12 +19,13 @@ pub struct Assignment {
     pub stream: u64,
 }
 
-/// What the root knows: how many callers are counted, what each that has a seat was made with, those that have joined,
-/// and 0, or 1 more than the one that has joined since the root last looked.
+/// What the root knows: how many callers are counted, what each that has a seat was made with, those that have joined
+/// and the list with which each did, and 0, or 1 more than the one that has joined since the root last looked.
 pub struct Lead {
     pub counted: u64,
     pub roll: LinkedList<Assignment>,
     pub joined: LinkedList<u64>,
+    pub lists: LinkedList<LinkedList<Entry>>,
     pub last: u64,
 }
 

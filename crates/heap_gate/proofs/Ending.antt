@@ -1,15 +1,15 @@
 -- What a closed table shows.
-use Rattle.std.proofs.Common.{◌≡◌, ℕ, zero, suc, ◌+◌, ◌<◌, Bool, true, false, ◌||◌, ◌==◌, List, [], ◌∷◌, ◌++◌, length, refl, sym, ap, ◌∙◌, subst, arith, Option, Some, None, inl, inr, eq-eqb, cond}
+use Rattle.std.proofs.Common.{◌≡◌, ℕ, ◌<◌, true, false, List, [], ◌∷◌, length, refl, sym, ap, ◌∙◌, subst, arith, Option, Some, None, inl, inr, eq-eqb}
 use Rattle.std.specs.Prelude.{nat_lt}
-use Rattle.std.proofs.lemmas.Bool.{cases_Bool, ltb-true, ltb-false, true≢false, false≢true}
+use Rattle.std.proofs.lemmas.Bool.{and_parts, and_from, cases_Bool, ltb-true, ltb-false, true≢false}
 use mathlib.Core.Option.{some}
 use lib.ListN.{get_elem?}
 use Rattle.atomic_table.specs.Table.{Me, Final, Seen}
 use Rattle.heap_model.specs.declared.Entry.{Entry}
 use Rattle.heap_model.specs.declared.What.{What}
 use Rattle.heap_model.specs.declared.What.TheVariants as whats
-use Rattle.heap_model.specs.State.{State, Setting, GateAndLocks, Locks, is_among, is_caller, hands, holds, open_locks}
-use Rattle.heap_model.specs.CallState.{Configuration, caller_view, holds_none}
+use Rattle.heap_model.specs.State.{Setting, is_among, is_caller, holds}
+use Rattle.heap_model.specs.CallState.{Configuration, caller_view}
 use Rattle.heap_model.specs.History.{configuration_of, first_configuration, own}
 use Rattle.heap_model.proofs.GateSound.{gate_sound_first, none_held}
 use Rattle.heap_model.proofs.Others.{agrees_others}
@@ -20,17 +20,24 @@ use Rattle.claim_rule.specs.declared.views.View.{View}
 use Rattle.claim_rule.specs.Places.{vs_slot, back_slot, large_slot}
 use Rattle.claim_rule.specs.Shown.{AreAllShown, lag_of}
 use Rattle.claim_rule.specs.Home.{LayerState, AreHome, StandsForVs, StandsForBack, StandsForLarge}
-use Rattle.claim_rule.specs.Entries.{IsSettingOf, setting_of}
-use Rattle.claim_rule.specs.Rule.{IsRuled, KnowsAs}
+use Rattle.claim_rule.specs.Entries.{IsSettingOf, is_named, setting_of}
+use Rattle.claim_rule.specs.Rule.{IsRuled}
 use Rattle.claim_rule.proofs.Lists.{own_unnamed, legal_parts}
 use Rattle.claim_rule.proofs.Counts.{counted_after, counted_first, nobody_counted}
 use Rattle.claim_rule.proofs.Advance.{some_setting}
 use Rattle.claim_rule.proofs.Seats.{whole, root_of}
-use Rattle.heap_gate.specs.Token.{IsRoot, IsIdle, IsAtRest, joined_of, roll_in, lead_at}
+use Rattle.heap_gate.specs.Token.{IsRoot, IsIdle, IsAtRest, is_of, joined_of, roll_in, lists_of, lead_at}
 
 none_is : (o : Option ℕ) → ((d : ℕ) → is_caller d o ≡ false) → o ≡ None
 none_is None f = refl
 none_is (Some d) f = absurd (true≢false (sym (eq-eqb d d refl) ∙ f d))
+
+-- where all callers have joined, each entry is of one that has
+pub of_joined : (m : ℕ) (ns : List ℕ) (es : List Entry) → ((n : ℕ) → n < m → is_among n ns ≡ true) → is_named m es ≡ true → is_of ns es ≡ true
+of_joined m ns [] all h = refl
+of_joined m ns (e ∷ es) all h =
+    let p = and_parts (nat_lt e.caller m) (is_named m es) h in
+    and_from (is_among e.caller ns) (is_of ns es) (all e.caller (ltb-true e.caller m p.0)) (of_joined m ns es all p.1)
 
 module _ {T : Type 0} (stands : T → LayerState) (o : Opening) where
   pub record IsEnded (R : List Assignment) (l : List Entry) (ws : List ℕ) (xs : List (Option T)) : Type 0 where
@@ -46,7 +53,7 @@ module _ {T : Type 0} (stands : T → LayerState) (o : Opening) where
       let st = f.0 in
       let r : IsRuled stands o st = f.1.0 in
       let R : List Assignment = roll_in me.0.role in
-      let q : Lead = lead_at R (joined_of me.0.role) in
+      let q : Lead = lead_at R (joined_of me.0.role) (lists_of me.0.role) in
       let same : r.log ≡ me.0.seen = whole stands o st r id me.0 q f.1.1 k.role refl all in
       let p = root_of stands o st r id me.0 q f.1.1 k.role in
       let s : Setting = setting_of o R in

@@ -5,3 +5,4 @@ pub mod Preparing
 pub mod Begun
 pub mod Meeting
 pub mod Ending
+pub mod Counting

@@ -1,15 +1,15 @@
 -- What callers know that have met, and the root that has made a caller or taken one in.
-use Rattle.std.proofs.Common.{◌≡◌, ⊎_elim, ℕ, ◌+◌, ◌<◌, ◌≤◌, Bool, true, false, not, ◌&&◌, ◌==◌, cond, List, [], ◌∷◌, ◌++◌, length, refl, sym, ap, ◌∙◌, subst, arith, Option, Some, None, length-append, inl, inr}
+use Rattle.std.proofs.Common.{◌≡◌, ⊎_elim, ℕ, ◌+◌, ◌<◌, ◌≤◌, Bool, true, false, not, ◌&&◌, ◌||◌, ◌==◌, ◌⊎◌, eq-eqb, cond, List, [], ◌∷◌, ◌++◌, length, refl, sym, ap, ◌∙◌, subst, arith, Option, Some, None, length-append}
 use Rattle.std.specs.Prelude.{nat_lt}
-use Rattle.std.proofs.lemmas.Bool.{ltb-false, false≢true}
+use Rattle.std.proofs.lemmas.Bool.{and_parts, ltb-false, false≢true}
 use mathlib.Core.List.{IsPrefix}
 use Rattle.atomic_table.specs.Table.{Me, Step}
 use Rattle.atomic_table.specs.Seated.{TableId}
 use Rattle.rand_core.specs.Stream.{Stream}
 use Rattle.heap_model.specs.declared.Call.{Call}
 use Rattle.heap_model.specs.declared.Entry.{Entry}
-use Rattle.heap_model.specs.State.{Setting, is_among, is_caller, is_entered, hands}
-use Rattle.heap_model.specs.CallState.{Configuration, CallerView, Nothing, caller_view, holds_none}
+use Rattle.heap_model.specs.State.{Setting, is_among}
+use Rattle.heap_model.specs.CallState.{Configuration, Nothing, holds_none}
 use Rattle.heap_model.specs.History.{configuration_after, configuration_of, first_configuration, own}
 use Rattle.heap_model.specs.Agreement.{AgreesFor}
 use Rattle.heap_model.proofs.GateSound.{gate_sound_after, gate_sound_first}
@@ -22,12 +22,12 @@ use Rattle.claim_rule.specs.declared.views.Role.TheVariants.{Caller, Root}
 use Rattle.claim_rule.specs.declared.views.Lead.{Lead}
 use Rattle.claim_rule.specs.declared.views.View.{View}
 use Rattle.claim_rule.specs.Entries.{IsSettingOf, IsLegalWith, is_named, slot_at}
-use Rattle.claim_rule.specs.Rule.{longer, relay, told, taken_in, dealing, dealing_role, dealt, joined_role}
+use Rattle.claim_rule.specs.Rule.{are_distinct, longer, relay, told, taken_in, dealing, dealing_role, dealt, joined_role}
 use Rattle.claim_rule.specs.Plays.{agreed, numbered, heard_all, number_of}
-use Rattle.claim_rule.proofs.Lists.{after-append, follow_parts, legal_parts, none_between, named_more, setting_less, prefix_more, prefix_self, slot_before}
+use Rattle.claim_rule.proofs.Lists.{after-append, follow_parts, legal_parts, none_between, named_more, setting_less, prefix_more, prefix_self, prefix_trans, slot_before}
 use Rattle.claim_rule.proofs.Seats.{at_joined}
 use Rattle.random_pick.specs.CallerDraws.{IsBeforeDraw}
-use Rattle.heap_gate.specs.Token.{Token, IsAt, IsIdle, IsCaller, HaveMet, IsRoot, root_token, HasJoined, joined_of, roll_in, lead_at}
+use Rattle.heap_gate.specs.Token.{Token, IsAt, IsIdle, IsCaller, HaveMet, IsRoot, root_token, HasJoined, AreTheirs, joined_of, roll_in, lists_of, lead_at}
 use Rattle.heap_gate.proofs.Standing.{at_agrees}
 use Rattle.heap_gate.proofs.Tokens.{tok}
 
@@ -48,6 +48,26 @@ idle_of m n p h = record { counted = absent (is_among n m.state.gate.counted) h.
     absent : (a : Bool) → (a && not (is_among n m.state.gate.turning)) ≡ false → a ≡ false
     absent true e = absurd (false≢true (sym e ∙ ap not h.turning))
     absent false e = refl
+
+or_right : (a b : Bool) → b ≡ true → (a || b) ≡ true
+or_right true b e = refl
+or_right false b e = e
+
+-- a caller that joined before is not the one that joins now
+kept_of : (n : ℕ) (J : List ℕ) (xs ys : List Entry) → are_distinct (n ∷ J) ≡ true → ((m : ℕ) → is_among m (n ∷ J) ≡ true → (n + 1 ≡ m + 1) ⊎ (own m ys ≡ own m xs)) → (m : ℕ) → is_among m J ≡ true → own m ys ≡ own m xs
+kept_of n J xs ys once kept m h =
+    let apart : not (is_among n J) ≡ true = (and_parts (not (is_among n J)) (are_distinct J) once).0 in
+    ⊎_elim
+    (λ (e : n + 1 ≡ m + 1). let same : n ≡ m = omega arith in absurd (false≢true (sym (ap not (ap (λ (x : ℕ). is_among x J) same ∙ h)) ∙ apart)))
+    (λ (e : own m ys ≡ own m xs). e)
+    (kept m (or_right (n == m) (is_among m J) h))
+
+theirs_still : (J : List ℕ) (L : List (List Entry)) (xs ys : List Entry) → IsPrefix xs ys → ((m : ℕ) → is_among m J ≡ true → own m ys ≡ own m xs) → AreTheirs J L xs → AreTheirs J L ys
+theirs_still [] [] xs ys p kept h = tt
+theirs_still [] (l ∷ L) xs ys p kept h = h
+theirs_still (n ∷ J) [] xs ys p kept h = h
+theirs_still (n ∷ J) (l ∷ L) xs ys p kept h =
+    (prefix_trans l xs ys h.0 p, kept n (ap (λ (b : Bool). b || is_among n J) (eq-eqb n n refl)) ∙ h.1, theirs_still J L xs ys p (λ m e. kept m (or_right (n == m) (is_among m J) e)) h.2)
 
 prefix_whole : {A : Type 0} (xs ys : List A) → IsPrefix xs ys → length ys ≤ length xs → xs ≡ ys
 prefix_whole [] [] p le = refl
@@ -152,9 +172,9 @@ module _ {T : Type 0} where
 
   -- the root's role once it has taken in a caller
   pub root_taken : (me me1 : Me (Option T) View) (c : View) (made n : ℕ) → IsRoot me made → c.role ≡ Caller n → me1 ≡ (taken_in me.0 c, me.1)
-      → me1.0.role ≡ Root (record { counted = length (roll_in me.0.role); roll = roll_in me.0.role; joined = n ∷ joined_of me.0.role; last = n + 1 })
+      → me1.0.role ≡ Root (record { counted = length (roll_in me.0.role); roll = roll_in me.0.role; joined = n ∷ joined_of me.0.role; lists = c.seen ∷ lists_of me.0.role; last = n + 1 })
   root_taken me me1 c made n k kc e =
-      ap (λ (m : Me (Option T) View). m.0.role) e ∙ (ap (λ (o : Role). joined_role o c.role) k.role ∙ ap (joined_role (Root (lead_at (roll_in me.0.role) (joined_of me.0.role)))) kc)
+      ap (λ (m : Me (Option T) View). m.0.role) e ∙ (ap (λ (o : Role). joined_role c.seen o c.role) k.role ∙ ap (joined_role c.seen (Root (lead_at (roll_in me.0.role) (joined_of me.0.role) (lists_of me.0.role)))) kc)
 
   -- the root once it has taken in a caller and heard all
   pub root_joined : (z z' : TableId) (c : Token) (me me1 me2 : Me (Option T) View) (cv : View) (made r : ℕ) (st : Step (Option T)) → z' ≡ z → IsRoot me made → cv.role ≡ Caller c.number → c.seen ≡ cv.seen → c.roll ≡ cv.roll
@@ -166,10 +186,13 @@ module _ {T : Type 0} where
       let R : List Assignment = roll_in me.0.role in
       let n : ℕ = c.number in
       let h = subst (λ (m : Me (Option T) View). heard_all st m r me2) e h0 in
-      let q : Lead = record { counted = length R; roll = R; joined = n ∷ J; last = n + 1 } in
-      let e1 : joined_role me.0.role cv.role ≡ Root q = ap (λ (o : Role). joined_role o cv.role) k.role ∙ ap (joined_role (Root (lead_at R J))) kc in
-      let e2 : me2.0.role ≡ Root (lead_at R (n ∷ J)) = h.role q e1 in
+      let L : List (List Entry) = lists_of me.0.role in
+      let q : Lead = record { counted = length R; roll = R; joined = n ∷ J; lists = cv.seen ∷ L; last = n + 1 } in
+      let e1 : joined_role cv.seen me.0.role cv.role ≡ Root q = ap (λ (o : Role). joined_role cv.seen o cv.role) k.role ∙ ap (joined_role cv.seen (Root (lead_at R J L))) kc in
+      let e2 : me2.0.role ≡ Root (lead_at R (n ∷ J) (cv.seen ∷ L)) = h.role q e1 in
       let joined : joined_of me2.0.role ≡ n ∷ J = ap joined_of e2 in
+      let lists : lists_of me2.0.role ≡ cv.seen ∷ L = ap lists_of e2 in
+      let kept : (m : ℕ) → is_among m J ≡ true → own m me2.0.seen ≡ own m me.0.seen = kept_of n J me.0.seen me2.0.seen (h.once q e1) (h.kept q e1) in
       let roll : roll_in me2.0.role ≡ R = ap roll_in e2 in
       let mine : own n me2.0.seen ≡ own n cv.seen = h.last q e1 n refl in
       let legal : IsLegalWith me2.0.opening (roll_in me2.0.role) me2.0.seen = subst (λ (x : List Assignment). IsLegalWith me2.0.opening x me2.0.seen) (h.roll q e1 ∙ sym roll) h.legal in
@@ -178,11 +201,12 @@ module _ {T : Type 0} where
       let here : (s : Setting) → IsSettingOf me2.0.opening (roll_in me2.0.role) s → IsIdle n (configuration_of s me2.0.seen) =
       λ s x. idle_agrees s n (configuration_of s me2.0.seen) (configuration_of s cv.seen) (agrees_longer s n cv.seen me2.0.seen (legal s x) h.heard mine) (idle s (setting_less me.0.opening cv.roll R s (subst (IsPrefix cv.roll) (h.roll q e1) h.heard_roll) (was s x))) in (
         record {
-          role = e2 ∙ ap (λ (x : List Assignment × List ℕ). Root (lead_at x.0 x.1)) (λ j. (sym roll j, sym joined j));
+          role = e2 ∙ ap (λ (x : List Assignment × List ℕ × List (List Entry)). Root (lead_at x.0 x.1 x.2)) (λ j. (sym roll j, sym joined j, sym lists j));
           count_is = ap length roll ∙ k.count_is;
           slots = h.slots ∙ k.slots;
           legal = legal;
           names = ap (λ (x : List Assignment). is_named (length x) me2.0.seen) roll ∙ h.names q e1;
+          theirs = subst (λ (x : List ℕ × List (List Entry)). AreTheirs x.0 x.1 me2.0.seen) (λ j. (sym joined j, sym lists j)) (h.heard, mine, theirs_still J L me.0.seen me2.0.seen h.seen kept k.theirs);
           idle = λ m t s x. ⊎_elim
               (λ (y : n ≡ m). subst (λ (u : ℕ). IsIdle u (configuration_of s me2.0.seen)) y (here s x))
               (λ (y : is_among m J ≡ true). ⊎_elim
@@ -191,7 +215,7 @@ module _ {T : Type 0} where
               (h.kept q e1 m (ap (is_among m) (sym joined) ∙ t)))
               (at_joined n m J (ap (is_among m) (sym joined) ∙ t));
         },
-        record { table = ez; opening = h.opening; roll = roll; joined = joined; seen = h.seen; theirs = subst (λ (x : List Entry). IsPrefix x me2.0.seen) (sym es) h.heard; own = mine ∙ ap (own n) (sym es); legal = legal },
+        record { table = ez; opening = h.opening; roll = roll; joined = joined; seen = h.seen; theirs = subst (λ (x : List Entry). IsPrefix x me2.0.seen) (sym es) h.heard; own = mine ∙ ap (own n) (sym es); lists = lists ∙ ap (λ (x : List Entry). x ∷ L) (sym es); kept = kept; legal = legal },
       )
 
   -- the root once it has made a caller
@@ -199,12 +223,13 @@ module _ {T : Type 0} where
     pub root : IsRoot me2 (made + 1)
     pub roll : roll_in me2.0.role ≡ roll_in me.0.role ++ a ∷ []
     pub joined : joined_of me2.0.role ≡ joined_of me.0.role
+    pub lists : lists_of me2.0.role ≡ lists_of me.0.role
     pub seen : me2.0.seen ≡ me.0.seen
     pub opening : me2.0.opening ≡ me.0.opening
 
   pub counted_role : (me me1 : Me (Option T) View) (made n : ℕ) (st : Step (Option T)) → IsRoot me made → numbered st me n me1
-      → me1.0.role ≡ Root (record { counted = length (roll_in me.0.role) + 1; roll = roll_in me.0.role; joined = joined_of me.0.role; last = 0 })
-  counted_role me me1 made n st k t = (t.role (lead_at (roll_in me.0.role) (joined_of me.0.role)) k.role).1
+      → me1.0.role ≡ Root (record { counted = length (roll_in me.0.role) + 1; roll = roll_in me.0.role; joined = joined_of me.0.role; lists = lists_of me.0.role; last = 0 })
+  counted_role me me1 made n st k t = (t.role (lead_at (roll_in me.0.role) (joined_of me.0.role) (lists_of me.0.role)) k.role).1
 
   pub root_made : (a : Assignment) (me me1 me2 : Me (Option T) View) (made n : ℕ) (st : Step (Option T)) → IsRoot me made → numbered st me n me1 → me2 ≡ (dealing a me1.0, me1.1) → HasMade a me me2 made
   root_made a me me1 me2 made n st k t e =
@@ -212,9 +237,11 @@ module _ {T : Type 0} where
       let R : List Assignment = roll_in me.0.role in
       let len : length (R ++ a ∷ []) ≡ length R + 1 = length-append R (a ∷ []) in
       let e1 = counted_role me me1 made n st k t in
-      let e2 : me2.0.role ≡ Root (lead_at (R ++ a ∷ []) J) =
-      ap (λ (m : Me (Option T) View). m.0.role) e ∙ (ap (dealing_role a) e1 ∙ ap (λ (x : ℕ). Root (record { counted = x; roll = R ++ a ∷ []; joined = J; last = 0 })) (sym len)) in
+      let L : List (List Entry) = lists_of me.0.role in
+      let e2 : me2.0.role ≡ Root (lead_at (R ++ a ∷ []) J L) =
+      ap (λ (m : Me (Option T) View). m.0.role) e ∙ (ap (dealing_role a) e1 ∙ ap (λ (x : ℕ). Root (record { counted = x; roll = R ++ a ∷ []; joined = J; lists = L; last = 0 })) (sym len)) in
       let joined : joined_of me2.0.role ≡ J = ap joined_of e2 in
+      let lists : lists_of me2.0.role ≡ L = ap lists_of e2 in
       let roll : roll_in me2.0.role ≡ R ++ a ∷ [] = ap roll_in e2 in
       let seen : me2.0.seen ≡ me.0.seen = ap (λ (m : Me (Option T) View). m.0.seen) e ∙ t.seen in
       let opening : me2.0.opening ≡ me.0.opening = ap (λ (m : Me (Option T) View). m.0.opening) e ∙ t.opening in
@@ -222,15 +249,17 @@ module _ {T : Type 0} where
       λ s x. setting_less me.0.opening R (R ++ a ∷ []) s (prefix_more R R (a ∷ []) (prefix_self R)) (subst (λ (y : Opening × List Assignment). IsSettingOf y.0 y.1 s) (λ j. (opening j, roll j)) x) in
       record {
         root = record {
-          role = e2 ∙ ap (λ (x : List Assignment × List ℕ). Root (lead_at x.0 x.1)) (λ j. (sym roll j, sym joined j));
+          role = e2 ∙ ap (λ (x : List Assignment × List ℕ × List (List Entry)). Root (lead_at x.0 x.1 x.2)) (λ j. (sym roll j, sym joined j, sym lists j));
           count_is = let c = k.count_is in ap length roll ∙ (len ∙ ap (λ (x : ℕ). x + 1) c);
           slots = ap (λ (m : Me (Option T) View). m.1) e ∙ (t.slots ∙ k.slots);
           legal = λ s x. ap (Rattle.heap_model.specs.History.is_legal s) seen ∙ k.legal s (was s x);
           names = ap (λ (x : List Assignment). is_named (length x) me2.0.seen) roll ∙ (ap (is_named (length (R ++ a ∷ []))) seen ∙ named_more (length R) (length (R ++ a ∷ [])) me.0.seen (omega arith) k.names);
+          theirs = subst (λ (x : List ℕ × List (List Entry) × List Entry). AreTheirs x.0 x.1 x.2) (λ j. (sym joined j, sym lists j, sym seen j)) k.theirs;
           idle = λ m h s x. subst (λ (l : List Entry). IsIdle m (configuration_of s l)) (sym seen) (k.idle m (ap (is_among m) (sym joined) ∙ h) s (was s x));
         };
         roll = roll;
         joined = joined;
+        lists = lists;
         seen = seen;
         opening = opening;
       }
@@ -248,11 +277,11 @@ none_some a e = let no : ⊥ = cc in no
 
 module _ {T : Type 0} where
   -- the new caller has seen nothing
-  pub fresh : (z : TableId) (o : Opening) (a : Assignment) (v : View) (R : List Assignment) (J : List ℕ) (seed : ℕ) (g : Rattle.rand_pcg.specs.Lcg.Lcg) (me : Me (Option T) View) (made : ℕ)
-      → v.role ≡ Root (record { counted = length R + 1; roll = R; joined = J; last = 0 }) → v.opening ≡ o → me ≡ (dealt a v, []) → length R ≡ made
+  pub fresh : (z : TableId) (o : Opening) (a : Assignment) (v : View) (R : List Assignment) (J : List ℕ) (L : List (List Entry)) (seed : ℕ) (g : Rattle.rand_pcg.specs.Lcg.Lcg) (me : Me (Option T) View) (made : ℕ)
+      → v.role ≡ Root (record { counted = length R + 1; roll = R; joined = J; lists = L; last = 0 }) → v.opening ≡ o → me ≡ (dealt a v, []) → length R ≡ made
       → length R < o.limits.callers → o.limits.callers ≤ 64 → seed ≡ o.seed → g ≡ Rattle.rand_pcg.specs.Lcg.started 64 Rattle.rand_pcg.specs.Pcg.multiplier_64 seed (Rattle.rand_pcg.specs.Lcg.increment_of 64 a.stream)
       → IsCaller me (tok z me made [] None false false false 0 false) (Rattle.random_pick.specs.CallerDraws.words_of g) × (slot_at me.0.roll made ≡ a.slot)
-  fresh z o a v R J seed g me made vr vo e len few small seeds made_by =
+  fresh z o a v R J L seed g me made vr vo e len few small seeds made_by =
       let role : me.0.role ≡ Caller made = ap (λ (m : Me (Option T) View). m.0.role) e ∙ (ap Rattle.claim_rule.specs.Rule.dealt_role vr ∙ ap Caller len) in
       let roll : me.0.roll ≡ R ++ a ∷ [] = ap (λ (m : Me (Option T) View). m.0.roll) e ∙ ap (λ (r : Role). Rattle.claim_rule.specs.Rule.roll_of r ++ a ∷ []) vr in
       let opening : me.0.opening ≡ o = ap (λ (m : Me (Option T) View). m.0.opening) e ∙ vo in

@@ -1,5 +1,5 @@
 -- A caller with one prepared entry more.
-use Rattle.std.proofs.Common.{◌≡◌, ℕ, ◌+◌, ◌<◌, Bool, true, false, not, ◌&&◌, ◌==◌, cond, List, [], ◌∷◌, ◌++◌, length, Option, Some, None, refl, sym, ap, ◌∙◌, subst, arith, eq-eqb, append_assoc, length-append, eqb}
+use Rattle.std.proofs.Common.{◌≡◌, ℕ, ◌<◌, Bool, true, false, ◌&&◌, ◌==◌, List, [], ◌∷◌, ◌++◌, length, Option, Some, refl, sym, ap, ◌∙◌, subst, arith, eq-eqb, append_assoc, length-append}
 use Rattle.std.specs.Prelude.{is_none}
 use Rattle.std.proofs.lemmas.Bool.{and_parts, and_from, false≢true}
 use Rattle.atomic_table.specs.Table.{Me}
@@ -10,14 +10,14 @@ use Rattle.heap_model.specs.declared.Act.TheVariants as acts
 use Rattle.heap_model.specs.declared.Call.{Call}
 use Rattle.heap_model.specs.declared.Entry.{Entry}
 use Rattle.heap_model.specs.State.{Setting}
-use Rattle.heap_model.specs.CallState.{Configuration, Nothing}
+use Rattle.heap_model.specs.CallState.{Configuration}
 use Rattle.heap_model.specs.Legal.{after, is_compact}
 use Rattle.heap_model.specs.History.{configuration_after, configuration_of, own}
 use Rattle.claim_rule.specs.declared.views.View.{View}
 use Rattle.claim_rule.specs.Entries.{IsSettingOf, setting_of, entry, may_prepare, are_prepared}
 use Rattle.claim_rule.proofs.Lists.{after-append}
 use Rattle.claim_rule.proofs.Advance.{some_setting}
-use Rattle.heap_gate.specs.Token.{Token, IsAt, IsCaller, CallMarks, mark, marks_from, marks_of, pending_after, with_prepared}
+use Rattle.heap_gate.specs.Token.{IsAt, IsCaller, CallMarks, mark, marks_from, marks_of, pending_after, with_prepared}
 use Rattle.heap_gate.proofs.Standing.{only_begin, at_begin, begin_ok}
 use Rattle.heap_gate.proofs.Tokens.{tok, marked, marks-append}
 

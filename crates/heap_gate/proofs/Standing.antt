@@ -1,18 +1,16 @@
 -- Where a caller stands before and after each of its entries.
-use Rattle.std.proofs.Common.{◌≡◌, ℕ, ◌+◌, ◌<◌, Bool, true, false, not, ◌&&◌, ◌||◌, ◌==◌, cond, List, [], ◌∷◌, ◌++◌, Option, Some, None, refl, sym, ap, ◌∙◌, subst, arith, eq-eqb, ne_eqb, inl, inr, eqb}
+use Rattle.std.proofs.Common.{◌≡◌, ℕ, ◌+◌, ◌<◌, Bool, true, false, not, ◌&&◌, ◌==◌, List, [], Option, Some, None, refl, sym, ap, ◌∙◌, eq-eqb}
 use Rattle.std.specs.Prelude.{is_some, is_none}
-use Rattle.std.proofs.lemmas.Bool.{and_parts, and_from, or_left, or_right, cases_Bool, both_ways, not-true, false≢true, true≢false, lt-ltb}
+use Rattle.std.proofs.lemmas.Bool.{and_parts, and_from, or_left, or_right, both_ways, not-true, false≢true, lt-ltb}
 use Rattle.heap_model.specs.declared.Act.{Act}
 use Rattle.heap_model.specs.declared.Act.TheVariants as acts
 use Rattle.heap_model.specs.declared.Call.{Call}
-use Rattle.heap_model.specs.declared.Entry.{Entry}
 use Rattle.heap_model.specs.declared.What.TheVariants as whats
 use Rattle.heap_model.specs.declared.Layer.TheVariants as layers
 use Rattle.heap_model.specs.State.{Setting, GateAndLocks, Place, is_among, is_caller, is_entered, hands, updated, without}
 use Rattle.heap_model.specs.Stay.{for_some}
 use Rattle.heap_model.specs.CallState.{Configuration, CallerView, CallState, Nothing, NotBegun, caller_view, is_outside, holds_none, held}
 use Rattle.heap_model.specs.Legal.{may, may_follow, after, is_lock_or_compact, call_after, gate_blocked, may_leave, is_empty, meets_demand, is_begin}
-use Rattle.heap_model.specs.History.{configuration_after}
 use Rattle.heap_model.specs.Agreement.{AgreesFor}
 use Rattle.heap_model.proofs.Stable.{caller_view_same, same_hands}
 use Rattle.heap_model.proofs.GateSound.{none_held}

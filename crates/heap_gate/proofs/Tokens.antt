@@ -1,6 +1,5 @@
 -- From what a step tells to what a call ensures.
-use Rattle.std.proofs.Common.{◌≡◌, ℕ, ◌+◌, ◌<◌, ◌≤◌, Bool, true, false, not, ◌&&◌, ◌==◌, cond, List, [], ◌∷◌, ◌++◌, length, Option, Some, None, refl, sym, ap, ◌∙◌, subst, append_assoc, arith, eq-eqb, length-append}
-use Rattle.std.specs.Prelude.{is_none}
+use Rattle.std.proofs.Common.{◌≡◌, ℕ, ◌+◌, ◌<◌, Bool, true, false, cond, List, [], ◌∷◌, ◌++◌, length, Option, None, refl, sym, ap, ◌∙◌, subst, append_assoc, arith, length-append}
 use Rattle.std.proofs.lemmas.List.{append-nil}
 use mathlib.Core.List.{IsPrefix}
 use Rattle.atomic_table.specs.Table.{Me}
@@ -11,7 +10,7 @@ use Rattle.heap_model.specs.declared.Act.TheVariants as acts
 use Rattle.heap_model.specs.declared.Call.{Call}
 use Rattle.heap_model.specs.declared.Entry.{Entry}
 use Rattle.heap_model.specs.State.{Setting}
-use Rattle.heap_model.specs.CallState.{Configuration, Nothing}
+use Rattle.heap_model.specs.CallState.{Configuration}
 use Rattle.heap_model.specs.Legal.{may_follow, after}
 use Rattle.heap_model.specs.History.{configuration_after, configuration_of, own}
 use Rattle.heap_model.specs.Agreement.{AgreesFor, reveals_nothing, revealed}
@@ -27,7 +26,7 @@ use Rattle.claim_rule.specs.Plays.{Goes, GoesIn, number_of}
 use Rattle.claim_rule.proofs.Lists.{own-append, own_by, by-append, prefix_self, prefix_more, prefix_trans, setting_less, slot_before, after-append}
 use Rattle.claim_rule.proofs.Prepared.{prepared_by}
 use Rattle.claim_rule.proofs.Advance.{some_setting}
-use Rattle.heap_gate.specs.Token.{Token, IsAt, IsCaller, CallMarks, marks_from, marks_of, mark, now, Does, Runs, Reveals, with_prepared, begins}
+use Rattle.heap_gate.specs.Token.{Token, IsAt, IsCaller, CallMarks, marks_from, marks_of, mark, now, Does, Runs, Reveals, with_prepared}
 use Rattle.heap_gate.proofs.Standing.{at_agrees}
 
 -- the token of a seat

@@ -1,2 +1,3 @@
 pub mod Words
 pub mod Token
+pub mod Counts

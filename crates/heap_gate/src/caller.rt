@@ -160,14 +160,15 @@ fn pass<T: Stands>(heap: &Heap<T>, c: &mut Caller<T>) -> Result<(), Busy>
     ensures ok { OnOk result (HasEntered c.old c.new (entry c.old.number Enter ∷ [])) }
     ensures busy { IfErr result (λ b. HasTurnedBack c.old c.new b.what b.word (entry c.old.number (Blocked whats.Gate b.word) ∷ entry c.old.number Leave ∷ [])) }
 {
-    let word = enter_as::<T, Brand>(&heap.table.shared, &mut c.place, &c.prepared);
+    let top = &heap.table.shared;
+    let word = enter_as::<T, Brand>(top, &mut c.place, &c.prepared);
     c.prepared.clear();
     c.pending = None;
     if enters(word, c.number) {
         c.inside = true;
         return Ok(());
     }
-    leave_as::<T, Brand>(&heap.table.shared, &mut c.place, &c.prepared);
+    leave_as::<T, Brand>(top, &mut c.place, &c.prepared);
     Err(Busy {
         what: What::Gate,
         word,

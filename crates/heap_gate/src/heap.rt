@@ -8,6 +8,7 @@ use std::alloc::Global;
 use std::marker::Model;
 
 /// A heap. Contracts see which table it has, and what it was opened with.
+#[derive(Drop)]
 pub struct Heap<T: Stands> {
     pub(crate) table: Table<Option<T>, View, Opening, HeapRule<T>, Global>,
     pub(crate) opening: Opening,

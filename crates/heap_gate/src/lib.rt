@@ -18,3 +18,6 @@ pub use closed::{Closed, Words};
 pub use heap::Heap;
 pub use lock::{lock_gate, unlock_gate};
 pub use root::{Root, close_table, join, make_caller, meet, open};
+
+#[cfg(test)]
+mod tests;

@@ -3,11 +3,11 @@ ghost use Rattle.std.specs.Prelude.{◌≡◌, ◌<◌, ℕ, true, false, [], �
 ghost use Rattle.heap_model.specs.Limits.{AreValid};
 ghost use Rattle.heap_model.specs.State.{is_among, opening};
 ghost use Rattle.heap_model.specs.History.{configuration_of};
-ghost use Rattle.claim_rule.specs.Entries.{setting_of};
+ghost use Rattle.claim_rule.specs.Entries.{IsLegalWith, setting_of};
 ghost use Rattle.claim_rule.specs.Places.{word_count};
 ghost use Rattle.claim_rule.specs.Home.{StandsForVs, StandsForBack, StandsForLarge};
 ghost use Rattle.claim_rule.specs.Shown.{AreAllShown, lag_of};
-ghost use Rattle.heap_gate.specs.Token.{HaveMet, HasJoined, IsAtRest, fresh_caller, fresh_root, opened_with};
+ghost use Rattle.heap_gate.specs.Token.{AreTheirs, HaveMet, HasJoined, IsAtRest, is_of, fresh_caller, fresh_root, opened_with};
 
 use crate::caller::Caller;
 use crate::closed::{Closed, Words};
@@ -154,6 +154,9 @@ pub fn close_table<T: Stands>(heap: Heap<T>, root: Root<T>) -> Closed<T>
     requires table { (root.table ≡ heap.table) × (root.opening ≡ heap.opening) }
     requires joined { (n : ℕ) → n < length root.roll → is_among n root.joined ≡ true }
     ensures last { result.last.value ≡ root }
+    ensures legal { IsLegalWith root.opening root.roll root.seen }
+    ensures joined { is_of root.joined root.seen ≡ true }
+    ensures theirs { AreTheirs root.joined root.lists root.seen }
     ensures rest { IsAtRest (configuration_of (setting_of root.opening root.roll) root.seen).state }
     ensures words { AreAllShown root.opening.limits (length root.roll) (configuration_of (setting_of root.opening root.roll) root.seen) (lag_of root.seen) result.words }
     ensures vs { StandsForVs root.opening (configuration_of (setting_of root.opening root.roll) root.seen).state (T.stands result.vs) }

@@ -1,21 +1,18 @@
-use Rattle.std.proofs.Common.{◌≡◌, ◌∙◌, ◌+◌, ◌/◌, ◌*◌, ◌==◌, ◌||◌, ℕ, Bool, List, [], ◌∷◌, ◌++◌, true, false, cond, None, Some, refl, sym, subst, ap, Option, arith, eq-eqb, ne_eqb}
+use Rattle.std.proofs.Common.{◌≡◌, ◌∙◌, ℕ, Bool, List, [], ◌∷◌, true, false, cond, None, Some, refl, sym, subst, ap}
 use Rattle.heap_model.specs.declared.Act.{Act}
 use Rattle.heap_model.specs.declared.Act.TheVariants as acts
-use Rattle.heap_model.specs.declared.Call.{Call}
 use Rattle.heap_model.specs.declared.Entry.{Entry}
 use Rattle.heap_model.specs.declared.What.TheVariants as whats
-use Rattle.heap_model.specs.State.{Setting}
-use Rattle.claim_rule.specs.declared.views.View.{View}
-use Rattle.claim_rule.specs.Entries.{entry, slot_at, is_by, IsSettingOf}
+use Rattle.claim_rule.specs.Entries.{entry, slot_at}
 use Rattle.claim_rule.specs.Plays.{Goes}
 use Rattle.claim_rule.proofs.Gate.{one_by}
 use Rattle.random_pick.specs.CallerDraws.{words_of}
 use Rattle.claim_rule.specs.Steps.{MayGoOut}
-use Rattle.claim_rule.specs.Plays.{Adds, gate_act, number_of}
+use Rattle.claim_rule.specs.Plays.{gate_act, number_of}
 use Rattle.heap_gate.specs.Token.{Token, IsCaller, Runs, HasEntered, HasTurnedBack}
 use Rattle.heap_gate.proofs.Standing.{at_enter}
-use Rattle.heap_gate.proofs.Tokens.{tok, IsMoved, moved, adds_by, by_it, runs, caller, at_after, one_agrees}
-use Rattle.heap_gate.proofs.Turning.{names_another, first, may_turn, both, at_end, agrees_end}
+use Rattle.heap_gate.proofs.Tokens.{tok, moved, adds_by, by_it, runs, caller, at_after, one_agrees}
+use Rattle.heap_gate.proofs.Turning.{names_another, may_turn, both, at_end, agrees_end}
 use Rattle.heap_gate.proofs.caller.pass.Goals as goal
 
 -- what the caller does, by whether it has entered

@@ -1,20 +1,12 @@
-use Rattle.std.proofs.Common.{◌≡◌, ◌∙◌, ◌+◌, ◌/◌, ◌*◌, ◌==◌, ◌||◌, ℕ, Bool, List, [], ◌∷◌, ◌++◌, true, false, cond, None, Some, refl, sym, subst, ap, Option, arith, eq-eqb, ne_eqb}
-use Rattle.heap_model.specs.declared.Act.{Act}
-use Rattle.heap_model.specs.declared.Act.TheVariants as acts
+use Rattle.std.proofs.Common.{◌≡◌, Bool, List, true, false, sym, subst, Option}
 use Rattle.heap_model.specs.declared.Call.{Call}
 use Rattle.heap_model.specs.declared.Entry.{Entry}
-use Rattle.heap_model.specs.declared.What.TheVariants as whats
-use Rattle.heap_model.specs.State.{Setting}
-use Rattle.claim_rule.specs.declared.views.View.{View}
-use Rattle.claim_rule.specs.Entries.{entry, slot_at, is_by, IsSettingOf}
-use Rattle.claim_rule.specs.Plays.{Goes}
-use Rattle.claim_rule.proofs.Gate.{one_by}
 use Rattle.random_pick.specs.CallerDraws.{words_of}
 use Rattle.std.proofs.Common.{◌<◌, length}
 use Rattle.claim_rule.specs.Entries.{may_prepare}
-use Rattle.heap_gate.specs.Token.{Token, IsCaller, Always, now, with_prepared, pending_after, mark}
+use Rattle.heap_gate.specs.Token.{Token, IsCaller, Always, now, pending_after, mark}
 use Rattle.heap_gate.proofs.Tokens.{tok, marked}
-use Rattle.heap_gate.proofs.Preparing.{prepared_more, prepared_is}
+use Rattle.heap_gate.proofs.Preparing.{prepared_more}
 use Rattle.heap_gate.proofs.caller.prepare.Goals as goal
 
 pub invariant_of-c : goal.invariant_of-c

@@ -1,17 +1,7 @@
-use Rattle.std.proofs.Common.{◌≡◌, ◌∙◌, ◌+◌, ◌/◌, ◌*◌, ◌==◌, ◌||◌, ℕ, Bool, List, [], ◌∷◌, ◌++◌, true, false, cond, None, Some, refl, sym, subst, ap, Option, arith, eq-eqb, ne_eqb}
-use Rattle.heap_model.specs.declared.Act.{Act}
-use Rattle.heap_model.specs.declared.Act.TheVariants as acts
-use Rattle.heap_model.specs.declared.Call.{Call}
-use Rattle.heap_model.specs.declared.Entry.{Entry}
-use Rattle.heap_model.specs.declared.What.TheVariants as whats
-use Rattle.heap_model.specs.State.{Setting}
-use Rattle.claim_rule.specs.declared.views.View.{View}
-use Rattle.claim_rule.specs.Entries.{entry, slot_at, is_by, IsSettingOf}
-use Rattle.claim_rule.specs.Plays.{Goes}
-use Rattle.claim_rule.proofs.Gate.{one_by}
+use Rattle.std.proofs.Common.{[], None, refl, subst}
 use Rattle.random_pick.specs.CallerDraws.{words_of}
-use Rattle.heap_gate.specs.Token.{Token, IsCaller, Runs}
-use Rattle.heap_gate.proofs.Tokens.{tok, IsMoved, moved, goes_by, by_it, runs, caller, at_once, none_agrees}
+use Rattle.heap_gate.specs.Token.{Token, Runs}
+use Rattle.heap_gate.proofs.Tokens.{tok, moved, goes_by, by_it, runs, caller, at_once, none_agrees}
 use Rattle.heap_gate.proofs.Standing.{at_settled}
 use Rattle.heap_gate.proofs.caller.settle.Goals as goal
 

@@ -1,18 +1,11 @@
-use Rattle.std.proofs.Common.{◌≡◌, ◌∙◌, ◌+◌, ◌/◌, ◌*◌, ◌==◌, ◌||◌, ℕ, Bool, List, [], ◌∷◌, ◌++◌, true, false, cond, None, Some, refl, sym, subst, ap, Option, arith, eq-eqb, ne_eqb}
-use Rattle.heap_model.specs.declared.Act.{Act}
+use Rattle.std.proofs.Common.{◌≡◌, ◌∙◌, [], ◌∷◌, false, None, refl, sym, subst, ap}
 use Rattle.heap_model.specs.declared.Act.TheVariants as acts
-use Rattle.heap_model.specs.declared.Call.{Call}
-use Rattle.heap_model.specs.declared.Entry.{Entry}
-use Rattle.heap_model.specs.declared.What.TheVariants as whats
-use Rattle.heap_model.specs.State.{Setting}
-use Rattle.claim_rule.specs.declared.views.View.{View}
-use Rattle.claim_rule.specs.Entries.{entry, slot_at, is_by, IsSettingOf}
-use Rattle.claim_rule.specs.Plays.{Goes}
+use Rattle.claim_rule.specs.Entries.{entry, slot_at}
 use Rattle.claim_rule.proofs.Gate.{one_by}
 use Rattle.random_pick.specs.CallerDraws.{words_of}
-use Rattle.heap_gate.specs.Token.{Token, IsCaller, Runs, HasUnlocked}
+use Rattle.heap_gate.specs.Token.{Token, IsCaller, HasUnlocked}
 use Rattle.heap_gate.proofs.Standing.{at_unlock}
-use Rattle.heap_gate.proofs.Tokens.{tok, IsMoved, moved, adds_by, by_it, runs, caller, at_after, one_agrees}
+use Rattle.heap_gate.proofs.Tokens.{tok, moved, adds_by, by_it, runs, caller, at_after, one_agrees}
 use Rattle.heap_gate.proofs.lock.give.Goals as goal
 
 pub invariant_of-c : goal.invariant_of-c

@@ -1,4 +1,4 @@
-use Rattle.std.proofs.Common.{◌≡◌, [], ◌∷◌, ◌++◌, ◌&&◌, not, refl, sym, subst}
+use Rattle.std.proofs.Common.{[], ◌∷◌, ◌&&◌, not, subst}
 use Rattle.std.specs.Prelude.{is_none}
 use Rattle.heap_model.specs.declared.Act.TheVariants as acts
 use Rattle.heap_model.specs.declared.Call.TheVariants as calls

@@ -1,20 +1,14 @@
-use Rattle.std.proofs.Common.{◌≡◌, ◌∙◌, ◌+◌, ◌/◌, ◌*◌, ◌==◌, ◌||◌, ℕ, Bool, List, [], ◌∷◌, ◌++◌, true, false, cond, None, Some, refl, sym, subst, ap, Option, arith, eq-eqb, ne_eqb}
+use Rattle.std.proofs.Common.{◌≡◌, ◌∙◌, ℕ, Bool, [], ◌∷◌, true, false, cond, None, Some, refl, sym, subst, ap, eq-eqb, ne_eqb}
 use Rattle.heap_model.specs.declared.Act.{Act}
 use Rattle.heap_model.specs.declared.Act.TheVariants as acts
-use Rattle.heap_model.specs.declared.Call.{Call}
-use Rattle.heap_model.specs.declared.Entry.{Entry}
 use Rattle.heap_model.specs.declared.What.TheVariants as whats
-use Rattle.heap_model.specs.State.{Setting}
-use Rattle.claim_rule.specs.declared.views.View.{View}
-use Rattle.claim_rule.specs.Entries.{entry, slot_at, is_by, IsSettingOf}
-use Rattle.claim_rule.specs.Plays.{Goes}
+use Rattle.claim_rule.specs.Entries.{entry, slot_at}
 use Rattle.claim_rule.proofs.Gate.{one_by}
 use Rattle.random_pick.specs.CallerDraws.{words_of}
-use Rattle.heap_model.specs.Legal.{is_lock_or_compact}
-use Rattle.claim_rule.specs.Plays.{Adds, lock_act, number_of}
-use Rattle.heap_gate.specs.Token.{Token, IsCaller, Runs, HasLocked, HasMissed}
+use Rattle.claim_rule.specs.Plays.{Adds, lock_act}
+use Rattle.heap_gate.specs.Token.{Token, IsCaller, HasLocked, HasMissed}
 use Rattle.heap_gate.proofs.Standing.{at_lock, at_missed}
-use Rattle.heap_gate.proofs.Tokens.{tok, IsMoved, moved, adds_by, by_it, runs, reveals, caller, at_after, one_agrees, lock_shows}
+use Rattle.heap_gate.proofs.Tokens.{tok, moved, adds_by, by_it, runs, reveals, caller, at_after, one_agrees, lock_shows}
 use Rattle.heap_gate.proofs.lock.take.Goals as goal
 
 -- what the caller does, by the word that it finds

@@ -1,15 +1,15 @@
-use Rattle.std.proofs.Common.{◌≡◌, ℕ, ◌<◌, true, ◌∙◌, ap, sym, subst, arith, List, Option, Some, length}
-use mathlib.Core.Option.{some, some-injective}
+use Rattle.std.proofs.Common.{◌≡◌, ℕ, ◌<◌, true, ◌∙◌, ap, sym, subst, List, Option, Some, length}
+use mathlib.Core.Option.{some-injective}
 use lib.ListN.{get_elem?}
 use Rattle.std.specs.Slots.{slots_items}
 use Rattle.heap_model.specs.State.{is_among}
 use Rattle.heap_model.specs.History.{configuration_of}
 use Rattle.claim_rule.specs.declared.views.Opening.{Opening}
-use Rattle.claim_rule.specs.Entries.{setting_of}
+use Rattle.claim_rule.specs.Entries.{IsLegalWith, setting_of}
 use Rattle.claim_rule.specs.Shown.{AreAllShown, lag_of}
 use Rattle.claim_rule.specs.Home.{StandsForVs, StandsForBack, StandsForLarge}
-use Rattle.heap_gate.specs.Token.{RootToken, HeapToken, IsAtRest, roll_in}
-use Rattle.heap_gate.proofs.Ending.{IsEnded, ended}
+use Rattle.heap_gate.specs.Token.{RootToken, HeapToken, AreTheirs, IsAtRest, is_of, joined_of, roll_in}
+use Rattle.heap_gate.proofs.Ending.{ended, of_joined}
 use Rattle.heap_gate.proofs.root.close_table.Goals as goal
 
 some_same : {A : Type 0} (a b : A) → Some a ≡ Some b → a ≡ b
@@ -38,6 +38,18 @@ held-large-requires g c =
     let all = subst (λ (t : RootToken). (n : ℕ) → n < length t.roll → is_among n t.joined ≡ true) (sym c.root.view_is) c.requires.joined in
     let f = ended g.T.Stands.stands o r.place.id r.made r.place.me (slots_items c.close_with-closed.result.words) (slots_items c.close_with-closed.result.slots) c.root.invariant opened all c.close_with-closed.ensures.values.2 in
     (f.large.0, some-injective c.take-3.result (Some f.large.0) (sym c.take-3.ensures.value ∙ (ap (λ (l : List (Option g.row.T.Denot)). get_elem? l 2) (c.take-2.ensures.others.0 ∙ c.take.ensures.others.0) ∙ f.large.1)))
+
+pub returns-clause-legal : goal.returns-clause-legal
+returns-clause-legal g c = subst (λ (t : RootToken). IsLegalWith t.opening t.roll t.seen) c.root.view_is c.root.invariant.legal
+
+pub returns-clause-joined : goal.returns-clause-joined
+returns-clause-joined g c =
+    let r = c.root.inside in
+    let all = subst (λ (t : RootToken). (n : ℕ) → n < length t.roll → is_among n t.joined ≡ true) (sym c.root.view_is) c.requires.joined in
+    subst (λ (t : RootToken). is_of t.joined t.seen ≡ true) c.root.view_is (of_joined (length (roll_in r.place.me.0.role)) (joined_of r.place.me.0.role) r.place.me.0.seen all c.root.invariant.names)
+
+pub returns-clause-theirs : goal.returns-clause-theirs
+returns-clause-theirs g c = subst (λ (t : RootToken). AreTheirs t.joined t.lists t.seen) c.root.view_is c.root.invariant.theirs
 
 pub returns-clause-rest : goal.returns-clause-rest
 returns-clause-rest g c =

@@ -1,21 +1,11 @@
-use Rattle.std.proofs.Common.{◌≡◌, ◌∙◌, ◌+◌, ◌/◌, ◌*◌, ◌==◌, ◌||◌, ℕ, Bool, List, [], ◌∷◌, ◌++◌, true, false, cond, None, Some, refl, sym, subst, ap, Option, arith, eq-eqb, ne_eqb}
-use Rattle.heap_model.specs.declared.Act.{Act}
-use Rattle.heap_model.specs.declared.Act.TheVariants as acts
-use Rattle.heap_model.specs.declared.Call.{Call}
+use Rattle.std.proofs.Common.{◌≡◌, ◌∙◌, ℕ, Bool, List, [], false, refl, sym, subst, ap, Option}
 use Rattle.heap_model.specs.declared.Entry.{Entry}
-use Rattle.heap_model.specs.declared.What.TheVariants as whats
-use Rattle.heap_model.specs.State.{Setting}
-use Rattle.claim_rule.specs.declared.views.View.{View}
-use Rattle.claim_rule.specs.Entries.{entry, slot_at, is_by, IsSettingOf}
-use Rattle.claim_rule.specs.Plays.{Goes}
-use Rattle.claim_rule.proofs.Gate.{one_by}
-use Rattle.random_pick.specs.CallerDraws.{words_of}
+use Rattle.claim_rule.specs.Entries.{IsSettingOf}
 use mathlib.Core.Option.{none}
-use Rattle.atomic_table.specs.Table.{Me, Step, step}
-use Rattle.claim_rule.specs.declared.views.Lead.{Lead}
+use Rattle.atomic_table.specs.Table.{Step, step}
 use Rattle.claim_rule.specs.declared.views.Opening.{Opening}
 use Rattle.heap_model.specs.History.{configuration_after, configuration_of}
-use Rattle.heap_gate.specs.Token.{Token, RootToken, IsCaller, IsRoot, IsAt, IsIdle, HasJoined, root_token, joined_of, roll_in}
+use Rattle.heap_gate.specs.Token.{Token, RootToken, IsRoot, IsAt, HasJoined, root_token}
 use Rattle.heap_gate.proofs.Tokens.{tok}
 use Rattle.heap_gate.proofs.Meeting.{root_taken, root_joined, idle_of}
 use Rattle.heap_gate.proofs.root.join.Goals as goal

@@ -1,23 +1,14 @@
-use Rattle.std.proofs.Common.{◌≡◌, ◌∙◌, ◌+◌, ◌/◌, ◌*◌, ◌==◌, ◌||◌, ℕ, Bool, List, [], ◌∷◌, ◌++◌, true, false, cond, None, Some, refl, sym, subst, ap, Option, arith, eq-eqb, ne_eqb}
-use Rattle.heap_model.specs.declared.Act.{Act}
-use Rattle.heap_model.specs.declared.Act.TheVariants as acts
-use Rattle.heap_model.specs.declared.Call.{Call}
+use Rattle.std.proofs.Common.{◌≡◌, ◌∙◌, List, false, None, sym, subst, ap, Option}
 use Rattle.heap_model.specs.declared.Entry.{Entry}
-use Rattle.heap_model.specs.declared.What.TheVariants as whats
-use Rattle.heap_model.specs.State.{Setting}
-use Rattle.claim_rule.specs.declared.views.View.{View}
-use Rattle.claim_rule.specs.Entries.{entry, slot_at, is_by, IsSettingOf}
-use Rattle.claim_rule.specs.Plays.{Goes}
-use Rattle.claim_rule.proofs.Gate.{one_by}
 use Rattle.random_pick.specs.CallerDraws.{words_of}
 use Rattle.std.proofs.Common.{◌<◌, length}
 use mathlib.Core.Option.{none}
-use Rattle.atomic_table.specs.Table.{Me, Step, step}
+use Rattle.atomic_table.specs.Table.{Step, step}
 use Rattle.claim_rule.specs.declared.views.Assignment.{Assignment}
 use Rattle.claim_rule.specs.declared.views.Opening.{Opening}
-use Rattle.heap_gate.specs.Token.{Token, HeapToken, RootToken, IsCaller, IsRoot, root_token, joined_of, roll_in, fresh_caller}
+use Rattle.heap_gate.specs.Token.{HeapToken, RootToken, IsCaller, joined_of, roll_in, lists_of}
 use Rattle.heap_gate.proofs.Tokens.{tok}
-use Rattle.heap_gate.proofs.Meeting.{HasMade, root_made, counted_role, fresh}
+use Rattle.heap_gate.proofs.Meeting.{root_made, counted_role, fresh}
 use Rattle.heap_gate.proofs.root.make_caller.Goals as goal
 
 pub invariant_of-root : goal.invariant_of-root
@@ -36,7 +27,7 @@ invariant_of-result g c =
     let same : c.args.heap.now.opening ≡ h.opening = ap (λ (t : HeapToken). t.opening) (sym c.heap.view_is) in
     let few = subst (λ (x : List Assignment × Opening). length x.0 < x.1.limits.callers) (λ j. (sym roll j, same j)) c.requires.room in
     let seed : c.args.seed ≡ h.opening.seed = c.requires.seed ∙ ap (λ (x : Opening). x.seed) same in
-    let f = fresh c.deal-place.result.table_id h.opening a c.count.new.place.me.0 (roll_in r.place.me.0.role) (joined_of r.place.me.0.role) c.args.seed c.new-3.result c.deal-place.result.me r.made
+    let f = fresh c.deal-place.result.table_id h.opening a c.count.new.place.me.0 (roll_in r.place.me.0.role) (joined_of r.place.me.0.role) (lists_of r.place.me.0.role) c.args.seed c.new-3.result c.deal-place.result.me r.made
     (counted_role r.place.me c.count.new.place.me r.made c.count.ensures.told.0 st k c.count.ensures.told.1)
     (c.count.ensures.told.1.opening ∙ opened) c.deal-place.ensures.seat.1 k.count_is few c.heap.invariant.valid.callers seed (c.new-3.ensures ∙ c.new-2.ensures) in
     (subst (λ (x : List Entry). IsCaller c.deal-place.result.me (tok c.deal-place.result.table_id c.deal-place.result.me r.made x None false false false 0 false) (words_of c.new-3.result)) (sym c.new.ensures) f.0, f.1)

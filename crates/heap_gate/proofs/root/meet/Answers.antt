@@ -1,18 +1,9 @@
-use Rattle.std.proofs.Common.{◌≡◌, ◌∙◌, ◌+◌, ◌/◌, ◌*◌, ◌==◌, ◌||◌, ℕ, Bool, List, [], ◌∷◌, ◌++◌, true, false, cond, None, Some, refl, sym, subst, ap, Option, arith, eq-eqb, ne_eqb}
-use Rattle.heap_model.specs.declared.Act.{Act}
-use Rattle.heap_model.specs.declared.Act.TheVariants as acts
-use Rattle.heap_model.specs.declared.Call.{Call}
-use Rattle.heap_model.specs.declared.Entry.{Entry}
-use Rattle.heap_model.specs.declared.What.TheVariants as whats
-use Rattle.heap_model.specs.State.{Setting}
+use Rattle.std.proofs.Common.{◌∙◌, subst, ap, Option}
 use Rattle.claim_rule.specs.declared.views.View.{View}
-use Rattle.claim_rule.specs.Entries.{entry, slot_at, is_by, IsSettingOf}
-use Rattle.claim_rule.specs.Plays.{Goes}
-use Rattle.claim_rule.proofs.Gate.{one_by}
 use Rattle.random_pick.specs.CallerDraws.{words_of}
 use mathlib.Core.Option.{none}
 use Rattle.atomic_table.specs.Table.{Me, Step, step}
-use Rattle.heap_gate.specs.Token.{Token, IsCaller, HaveMet}
+use Rattle.heap_gate.specs.Token.{Token, HaveMet}
 use Rattle.heap_gate.proofs.Tokens.{tok}
 use Rattle.heap_gate.proofs.Meeting.{HasTaken, meets, caller_taken, met}
 use Rattle.heap_gate.proofs.root.meet.Goals as goal

@@ -1,4 +1,4 @@
-use Rattle.std.proofs.Common.{◌≡◌, ℕ, [], ◌∷◌, ◌++◌, ◌∙◌, ap, sym, subst, List, Option, Some, refl, replicate}
+use Rattle.std.proofs.Common.{◌≡◌, ℕ, [], ◌∷◌, ◌++◌, ◌∙◌, ap, sym, subst, List, Option, Some}
 use Rattle.atomic_table.specs.Table.{opening}
 use Rattle.claim_rule.specs.declared.views.Opening.{Opening}
 use Rattle.claim_rule.specs.Places.{word_count}

@@ -1,5 +1,4 @@
-use Rattle.std.proofs.Common.{◌≡◌, ◌∙◌, ℕ, Bool, false, true, sym, subst, ap}
-use Rattle.heap_model.specs.State.{Setting}
+use Rattle.std.proofs.Common.{◌≡◌, ◌∙◌, Bool, false, sym, subst, ap}
 use Rattle.heap_model.specs.Search.{draw_of}
 use Rattle.random_pick.specs.CallerDraws.{words_of, IsBeforeDraw}
 use Rattle.random_pick.proofs.DrawLemmas.{next_draw_is}
