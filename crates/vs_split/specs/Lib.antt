@@ -2,3 +2,4 @@ pub mod Chunks
 pub mod Tiles
 pub mod Table
 pub mod Laws
+pub mod Shown

@@ -1,0 +1,7 @@
+use Rattle.std.proofs.Common.{subst}
+use Rattle.vs_layer.specs.Effects.{ShowsChunks}
+use Rattle.vs_layer.proofs.Shown.{shows_chunks}
+use Rattle.vs_layer.proofs.Vs.heads.Goals as goal
+
+pub returns-clause-shown : goal.returns-clause-shown
+returns-clause-shown c = subst ShowsChunks c.self.view_is (shows_chunks _ c.self.invariant.chunks c.self.invariant.plain)

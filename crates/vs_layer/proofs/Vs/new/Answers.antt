@@ -1,0 +1,26 @@
+use Rattle.std.proofs.Common.{◌≡◌, ◌*◌, [], replicate, false, rules, refl, ap, ◌∙◌}
+use Rattle.vs_split.specs.Chunks.{Chunks}
+use Rattle.vs_layer.specs.Sound.{spans_from}
+use Rattle.vs_layer.proofs.Opening.{opening_sound}
+use Rattle.vs_layer.proofs.Spans.{spans_none}
+use Rattle.vs_layer.proofs.Vs.new.Goals as goal
+
+pub invariant_of-result : goal.invariant_of-result
+invariant_of-result c =
+    opening_sound _ _ _ _ c.args.limits.now.segments (record {
+      few = c.requires.segments;
+      spans = refl;
+      told_none = search rules;
+      no_heads = ap (λ (v : Chunks). v.heads) c.in_ok-new.ensures;
+      index = c.in_ok-new-2.ensures;
+      live_none = c.in_ok-new-3.ensures.live;
+      served = c.in_ok-new-3.ensures.served;
+      active = search rules;
+    })
+
+pub returns : goal.returns
+returns c =
+    let none : c.in_ok-vec.field-0.items ≡ replicate (256 * c.args.limits.now.segments) 0 = search rules in
+    let spans : spans_from 0 c.in_ok-vec.field-0.items ≡ [] = ap (spans_from 0) none ∙ spans_none 0 (256 * c.args.limits.now.segments) in
+    let active : c.in_ok-vec-2.field-0.items ≡ replicate 129 false = search rules in
+    λ i. record { spans = spans i; chunks = c.in_ok-new.ensures i; served = c.in_ok-new-3.ensures.served i; active = active i }

@@ -1,0 +1,5 @@
+pub mod Kept
+pub mod Effects
+pub mod Sound
+pub mod Counted
+pub mod Steps

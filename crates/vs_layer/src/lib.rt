@@ -1,0 +1,164 @@
+//! The variable-size layer: blocks of up to 131,072 bytes, each placed in the smallest gap that holds it.
+//!
+//! A subsegment of this layer is a span of 16 to 33 pages that the back end gave. Behind its first 48 bytes chunks tile it,
+//! places and gaps; no two gaps are neighbours. A request of n bytes needs one granule of 16 bytes for its header and those
+//! of its bytes. It takes the front of the smallest gap that has them, the lowest among equals, and all of the gap where
+//! fewer than 2 granules would remain. A block begins 16 bytes behind the start of its place. This is the variable-size
+//! allocation of the published description of the segment heap; the limits and the order of ties are this project's own.
+//!
+//! No call after `new` takes memory. Each looks at the block that it names, the chunks right beside it and the index of the
+//! gaps, and walks no span.
+#![tactic(auto)]
+
+mod counting;
+mod dropping;
+mod placing;
+mod resizing;
+#[cfg(test)]
+mod tests;
+
+ghost use Rattle.std.specs.Prelude.{◌≡◌, ◌≤◌, IfOk, true};
+ghost use Rattle.heap_model.specs.Geometry.{span_pages_of, units_of};
+ghost use Rattle.heap_model.specs.Limits.{AreValid};
+ghost use Rattle.heap_model.specs.Stay.{is_due};
+ghost use Rattle.heap_model.specs.State.{updated};
+ghost use Rattle.vs_layer.specs.Kept.{places_of, active_of, part_of};
+ghost use Rattle.vs_layer.specs.Effects.{nothing_kept, IsOfOneHeap, ShowsChunks};
+
+use counting::Counts;
+use heap_model::{Limits, OutOfMemory};
+use std::alloc::Global;
+use std::marker::Model;
+use vs_free_tree::FreeIndex;
+use vs_split::Heads;
+
+/// The bytes of a granule.
+const GRANULE_BYTES: u64 = 16;
+
+/// The granules of a page.
+const PAGE_GRANULES: u32 = 256;
+
+/// The most gaps that a segment can have: between two of them lies a place, and each has 2 granules or more.
+const SEGMENT_GAPS: u32 = 16384;
+
+const SEGMENT_PAGES: u32 = 256;
+
+/// The buckets of the low-fragmentation front end, and bucket 0, which is none.
+const BUCKETS: usize = 129;
+
+/// A bucket is due with so many live blocks here, or after so many placements.
+const DUE_LIVE: u32 = 17;
+
+const DUE_SERVED: u16 = 2040;
+
+/// The variable-size layer of a heap. Contracts see its spans, its chunks, which buckets it has served, and which are
+/// active. The live blocks, by address, are `places_of` it.
+#[derive(Drop)]
+pub struct Vs {
+    tiling: Tiling,
+    /// How many pages the span has that starts at a page, 0 where none does.
+    pages: Vec<u8>,
+    counts: Counts,
+    active: Vec<bool>,
+}
+
+/// The chunks, and the index of those that are gaps. In the middle of a call the two need not agree.
+#[derive(Drop)]
+pub(crate) struct Tiling {
+    heads: Heads,
+    index: FreeIndex,
+}
+
+impl Model for Vs {
+    ghost use Rattle.vs_layer.specs.Kept.{VsKept};
+    ghost use Rattle.vs_layer.specs.Sound.{spans_from, IsSound};
+
+    ghost Value = { VsKept };
+
+    ghost view = { λ v. record { spans = spans_from 0 v.pages.items; chunks = v.tiling.heads; served = v.counts.served.items; active = v.active.items } };
+
+    ghost invariant = { λ v. IsSound (record { spans = spans_from 0 v.pages.items; chunks = v.tiling.heads; served = v.counts.served.items; active = v.active.items }) v.pages.items v.tiling.index v.counts.live.items };
+}
+
+impl Vs {
+    /// No span, in a heap with these limits and this key. It takes all the memory that it will ever use.
+    pub fn new(alloc: Global, limits: &Limits, key: u64) -> Result<Vs, OutOfMemory>
+        requires { AreValid limits.now }
+        ensures { IfOk result (λ v. v ≡ nothing_kept limits.now.segments key) }
+    {
+        let pages = (SEGMENT_PAGES * limits.segments) as usize;
+        Ok(Vs {
+            tiling: Tiling {
+                heads: Heads::new(alloc, limits, key)?,
+                index: FreeIndex::new(alloc, SEGMENT_GAPS * limits.segments)?,
+            },
+            pages: vec![in alloc; 0u8; pages]?,
+            counts: Counts::new(alloc)?,
+            active: vec![in alloc; false; BUCKETS]?,
+        })
+    }
+
+    /// The pages of the subsegment that is made for a block of `n` bytes.
+    pub fn span_pages(n: u64) -> u32
+        requires { n ≤ 131072 }
+        ensures { result ≡ span_pages_of n }
+    {
+        let bytes = 48 + GRANULE_BYTES * u64::from(units_for(n));
+        (bytes.div_ceil(4096) as u32).max(16)
+    }
+
+    /// Whether a bucket is to become active: at least 17 of its blocks live here, or at least 2,040 were placed here.
+    pub fn due(&self, bucket: u8) -> bool
+        requires { (1 ≤ bucket) × (bucket ≤ 128) }
+        ensures { result ≡ is_due (part_of self.now) bucket }
+    {
+        let b = usize::from(bucket);
+        self.counts.live[b] >= DUE_LIVE || self.counts.served[b] >= DUE_SERVED
+    }
+
+    /// Whether a bucket is active, so that the low-fragmentation front end serves it.
+    pub fn is_active(&self, bucket: u8) -> bool
+        requires { (1 ≤ bucket) × (bucket ≤ 128) }
+        ensures { result ≡ active_of self.now bucket }
+    {
+        self.active[usize::from(bucket)]
+    }
+
+    /// Makes a bucket active. It stays so.
+    pub fn set_active(&mut self, bucket: u8)
+        requires { (1 ≤ bucket) × (bucket ≤ 128) }
+        ensures active { active_of self.new ≡ updated (active_of self.old) bucket true }
+        ensures chunks { self.new.chunks ≡ self.old.chunks }
+        ensures spans { self.new.spans ≡ self.old.spans }
+        ensures served { self.new.served ≡ self.old.served }
+    {
+        self.active[usize::from(bucket)] = true;
+    }
+
+    /// The headers of all chunks.
+    pub fn heads(&self) -> &Heads
+        ensures chunks { result.now ≡ self.now.chunks }
+        // they are the places and the gaps, and tile the spans
+        ensures shown { ShowsChunks self.now }
+    {
+        &self.tiling.heads
+    }
+
+    /// The headers of all chunks, unchanged.
+    pub fn into_heads(self) -> Heads
+        ensures chunks { result ≡ self.chunks }
+        ensures shown { ShowsChunks self }
+    {
+        let Vs { tiling, .. } = self;
+        let Tiling { heads, .. } = tiling;
+        heads
+    }
+}
+
+/// The granules of a place of `n` bytes, its header included.
+fn units_for(n: u64) -> u16
+    requires { n ≤ 131072 }
+    ensures { result ≡ units_of n }
+{
+    1 + n.max(1).div_ceil(GRANULE_BYTES) as u16
+}
