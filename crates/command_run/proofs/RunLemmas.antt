@@ -1,5 +1,5 @@
 -- On commands that are run one after another.
-use Rattle.std.proofs.Common.{◌≡◌, ℕ, ◌+◌, true, false, List, [], ◌∷◌, ◌++◌, length, refl, sym, ap, subst, ◌∙◌, arith}
+use Rattle.std.proofs.Common.{◌≡◌, ℕ, ◌+◌, List, [], ◌∷◌, ◌++◌, length, refl, sym, ap, subst, ◌∙◌, arith}
 use Rattle.heap_model.specs.declared.Act.{Act}
 use Rattle.heap_model.specs.declared.Act.TheVariants as acts
 use Rattle.heap_model.specs.declared.Call.{Call}
@@ -10,10 +10,9 @@ use Rattle.heap_model.specs.CallState.{Configuration}
 use Rattle.heap_model.specs.Alone.{alone, configuration_by}
 use Rattle.serial_laws.specs.OneCall.{CompleteInTurn, end_of}
 use Rattle.script_text.specs.declared.commands.Command.{Command}
-use Rattle.script_text.specs.declared.commands.Command.TheVariants as commands
-use Rattle.heap_now.specs.Standing.{LoneHeap, setting_of, Stands, IsBuilt, Serves}
+use Rattle.heap_now.specs.Standing.{LoneHeap, setting_of, Stands, Serves}
 use Rattle.command_run.specs.Commands.{call_of, assigned, calls_of, values_after}
-use Rattle.command_run.specs.Running.{IsServed, Runs}
+use Rattle.command_run.specs.Running.{Runs}
 
 -- calls that complete in turn, and more behind them
 turns_append : (s : Setting) (m : Configuration) (cs ds : List Call) (rs qs : List Reply) (xs ys : List (List Act)) → CompleteInTurn s m cs rs xs → CompleteInTurn s (end_of s m cs xs) ds qs ys →
@@ -74,17 +73,3 @@ runs_none a v m st = record { rests = []; complete = tt; stands = st; limits = r
 
 pub runs_one : (a b : LoneHeap) (v w : ℕ → ℕ) (c : Command) (r : Reply) (m : Configuration) → b.limits ≡ a.limits → b.seed ≡ a.seed → Serves a b m (call_of v c) r → w ≡ assigned v c r → Runs a b v w (c ∷ []) (r ∷ []) m
 runs_one a b v w c r m l e s x = record { rests = s.rest ∷ []; complete = (s.completes, tt); stands = s.stands; limits = l; seed = e; values_are = x; each = refl }
-
--- a command that is served makes a call that is built
-pub served_built : (v : ℕ → ℕ) (c : Command) → IsServed c → IsBuilt (call_of v c)
-served_built v (commands.Alloc name n false) h = (h.0, h.1, refl)
-served_built v (commands.Alloc name n true) h = absurd h
-served_built v (commands.Free target) h = tt
-served_built v (commands.Size target) h = tt
-served_built v (commands.Realloc target n in_place) h = absurd h
-served_built v (commands.Get target index) h = absurd h
-served_built v (commands.Put target index value) h = absurd h
-served_built v commands.Lock h = absurd h
-served_built v commands.Unlock h = absurd h
-served_built v commands.Walk h = absurd h
-served_built v commands.Compact h = absurd h

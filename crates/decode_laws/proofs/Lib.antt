@@ -1,3 +1,6 @@
 pub mod Members
 pub mod Rising
+pub mod Chunks
+pub mod Walk
 pub mod Shown
+pub mod Known

@@ -1,6 +1,6 @@
 -- On the elements of lists that are put together, mapped and sorted.
 use Rattle.std.proofs.Common.{◌≡◌, Bool, true, List, [], ◌∷◌, ◌++◌, map, Option, Some, None, refl, sym, ap, ◌∙◌, subst, ltb, inl, inr, ◌⊎◌}
-use Rattle.std.specs.Prelude.{filter, filter_map}
+use Rattle.std.specs.Prelude.{filter, filter_map, flat_map}
 use Rattle.std.specs.List.{AllByRecursion, cons_option}
 use Rattle.std.proofs.lemmas.Bool.{cases_Bool}
 use Rattle.heap_model.specs.State.{Place, insert_place, by_address}
@@ -29,6 +29,18 @@ pub from_mapped : {A B : Type 0} (f : A → B) (xs : List A) (y : B) → IsOneOf
 from_mapped f [] y i = absurd i
 from_mapped f (x ∷ xs) y (inl e) = (x, inl refl, e)
 from_mapped f (x ∷ xs) y (inr i) = let r = from_mapped f xs y i in (r.0, inr r.1, r.2)
+
+pub in_flat : {A B : Type 0} (f : A → List B) (x : A) (y : B) (xs : List A) → IsOneOf x xs → IsOneOf y (f x) → IsOneOf y (flat_map f xs)
+in_flat f x y [] i j = absurd i
+in_flat {A = A} f x y (z ∷ zs) (inl e) j = in_left y (f z) (flat_map f zs) (subst (λ (w : A). IsOneOf y (f w)) (sym e) j)
+in_flat f x y (z ∷ zs) (inr i) j = in_right y (f z) (flat_map f zs) (in_flat f x y zs i j)
+
+pub from_flat : {A B : Type 0} (f : A → List B) (xs : List A) (y : B) → IsOneOf y (flat_map f xs) → (x : A) × IsOneOf x xs × IsOneOf y (f x)
+from_flat f [] y i = absurd i
+from_flat f (x ∷ xs) y i = elim (in_parts y (f x) (flat_map f xs) i) [
+  | inl j ↦ (x, inl refl, j)
+  | inr j ↦ let r = from_flat f xs y j in (r.0, inr r.1, r.2)
+]
 
 in_cons : {A : Type 0} (o : Option A) (y : A) (ys : List A) → IsOneOf y ys → IsOneOf y (cons_option o ys)
 in_cons None y ys i = i

@@ -1,13 +1,13 @@
 -- Blocks in the order of their addresses: two such lists with the same blocks are one.
-use Rattle.std.proofs.Common.{◌≡◌, ℕ, ◌+◌, ◌*◌, ◌<◌, ◌≤◌, Bool, List, [], ◌∷◌, map, refl, sym, ap, ◌∙◌, arith, inl, inr, ◌⊎◌}
-use Rattle.std.specs.Prelude.{filter}
+use Rattle.std.proofs.Common.{◌≡◌, ℕ, ◌+◌, ◌*◌, ◌<◌, ◌≤◌, Bool, List, [], ◌∷◌, ◌++◌, refl, sym, ap, ◌∙◌, arith, inl, inr, ◌⊎◌}
+use Rattle.std.specs.Prelude.{filter, flat_map}
 use Rattle.std.specs.List.{AllByRecursion}
 use Rattle.std.proofs.lemmas.Bool.{cases_Bool}
 use Rattle.heap_model.specs.declared.Block.{Block}
 use Rattle.heap_model.specs.declared.Run.{Run}
-use Rattle.page_ranges.specs.Spans.{block_of, AreRising}
+use Rattle.page_ranges.specs.Ranges.{AreRuns}
 use Rattle.heap_soundness.specs.Sound.{IsOneOf, IsInFrontOf, AreInOrderBlocks}
-use Rattle.heap_soundness.proofs.Lists.{all_at, all_weaker}
+use Rattle.heap_soundness.proofs.Lists.{all_at, all_weaker, all_append}
 use Rattle.decode_laws.proofs.Members.{all_filtered}
 
 abbrev pub IsBelow : Block → Block → Type 0
@@ -25,17 +25,35 @@ picked_order t (b ∷ bs) a = elim (cases_Bool (t b)) [
   | inr e ↦ rw e (picked_order t bs a.1)
 ]
 
--- the blocks that rising runs are
-blocks_above : (from : ℕ) (rs : List Run) → AreRising from rs → AllByRecursion (λ b. 4096 * from ≤ b.addr) (map (block_of 4096) rs)
-blocks_above from [] a = tt
-blocks_above from (r ∷ rs) a = (omega (arith, a.0), all_weaker (λ b. 4096 * (r.first + r.pages) ≤ b.addr) (λ b. 4096 * from ≤ b.addr) (map (block_of 4096) rs) (λ b i h. omega (arith, h, a.0)) (blocks_above (r.first + r.pages) rs a.2))
+-- blocks of some addresses in front of blocks of higher ones
+joined_order : (high : ℕ) (bs ds : List Block) → ByAddress bs → ByAddress ds → AllByRecursion (λ b. b.addr < high) bs → AllByRecursion (λ d. high ≤ d.addr) ds → ByAddress (bs ++ ds)
+joined_order high [] ds a c l h = c
+joined_order high (b ∷ bs) ds a c l h =
+    let low = l.0 in
+    (all_append (IsBelow b) bs ds a.0 (all_weaker (λ d. high ≤ d.addr) (IsBelow b) ds (λ d i k. omega arith) h), joined_order high bs ds a.1 c l.1 h)
 
-pub blocks_order : (from : ℕ) (rs : List Run) → AreRising from rs → ByAddress (map (block_of 4096) rs)
-blocks_order from [] a = tt
-blocks_order from (r ∷ rs) a = (
-  all_weaker (λ b. 4096 * (r.first + r.pages) ≤ b.addr) (IsBelow (block_of 4096 r)) (map (block_of 4096) rs) (λ b i h. omega (arith, h, a.1)) (blocks_above (r.first + r.pages) rs a.2),
-  blocks_order (r.first + r.pages) rs a.2,
-)
+-- the addresses of a run
+abbrev pub LiesIn : Run → Block → Type 0
+LiesIn r b = (4096 * r.first ≤ b.addr) × (b.addr < 4096 * (r.first + r.pages))
+
+-- the blocks of runs that follow each other
+flat_above : (f : Run → List Block) (words : List ℕ) (from to : ℕ) (rs : List Run) → AreRuns words from to rs → ((r : Run) → IsOneOf r rs → AllByRecursion (LiesIn r) (f r)) →
+    AllByRecursion (λ b. 4096 * from ≤ b.addr) (flat_map f rs)
+flat_above f words from to [] a l = tt
+flat_above f words from to (r ∷ rs) a l =
+    let first = a.0 in
+    all_append (λ b. 4096 * from ≤ b.addr) (f r) (flat_map f rs)
+    (all_weaker (LiesIn r) (λ b. 4096 * from ≤ b.addr) (f r) (λ b i k. let k0 = k.0 in omega arith) (l r (inl refl)))
+    (all_weaker (λ b. 4096 * (from + r.pages) ≤ b.addr) (λ b. 4096 * from ≤ b.addr) (flat_map f rs) (λ b i k. omega arith) (flat_above f words (from + r.pages) to rs a.2 (λ q i. l q (inr i))))
+
+pub flat_order : (f : Run → List Block) (words : List ℕ) (from to : ℕ) (rs : List Run) → AreRuns words from to rs → ((r : Run) → IsOneOf r rs → AllByRecursion (LiesIn r) (f r)) →
+    ((r : Run) → IsOneOf r rs → ByAddress (f r)) → ByAddress (flat_map f rs)
+flat_order f words from to [] a l o = tt
+flat_order f words from to (r ∷ rs) a l o =
+    let first = a.0 in
+    joined_order (4096 * (from + r.pages)) (f r) (flat_map f rs) (o r (inl refl)) (flat_order f words (from + r.pages) to rs a.2 (λ q i. l q (inr i)) (λ q i. o q (inr i)))
+    (all_weaker (LiesIn r) (λ b. b.addr < 4096 * (from + r.pages)) (f r) (λ b i k. let k1 = k.1 in omega arith) (l r (inl refl)))
+    (flat_above f words (from + r.pages) to rs a.2 (λ q i. l q (inr i)))
 
 -- one element is the other, or behind it
 behind : (b d : Block) (ds : List Block) → AllByRecursion (IsBelow d) ds → IsOneOf b (d ∷ ds) → (d ≡ b) ⊎ (d.addr < b.addr)

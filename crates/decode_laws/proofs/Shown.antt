@@ -1,41 +1,44 @@
--- The blocks that an image tells of are the live ones of the back end.
-use Rattle.std.proofs.Common.{◌≡◌, ℕ, ◌+◌, ◌-◌, ◌*◌, ◌<◌, ◌≤◌, Bool, true, false, List, [], ◌∷◌, ◌++◌, cond, Option, Some, None, refl, sym, ap, ◌∙◌, subst, arith, inl, inr}
+-- The blocks that an image tells of are the live ones of the back end and of the variable-size layer.
+use Rattle.std.proofs.Common.{◌≡◌, ℕ, ◌+◌, ◌-◌, ◌*◌, ◌/◌, ◌%◌, ◌<◌, ◌≤◌, Bool, true, false, ◌||◌, List, [], ◌∷◌, ◌++◌, cond, leb, ltb, Option, Some, None, refl, sym, ap, ◌∙◌, subst, arith, inl, inr}
 use Rattle.std.specs.Prelude.{filter, option_map, option_and_then, unwrap_or, length}
 use Rattle.std.specs.List.{AllByRecursion, find, list_all}
-use Rattle.std.proofs.lemmas.Bool.{eqb-true, and_from, le-leb, false≢true}
+use Rattle.std.specs.Option.{option_map_or}
+use Rattle.std.proofs.lemmas.Bool.{cases_lt, eqb-true, and_from, and_parts, or_cases, le-leb, leb-true, false≢true}
 use Rattle.heap_model.specs.declared.Block.{Block}
 use Rattle.heap_model.specs.declared.Kind.{Kind}
 use Rattle.heap_model.specs.declared.Kind.TheVariants as kinds
 use Rattle.heap_model.specs.declared.Layer.{Layer}
 use Rattle.heap_model.specs.declared.Layer.TheVariants as layers
-use Rattle.heap_model.specs.declared.Limits.{Limits}
 use Rattle.heap_model.specs.declared.Run.{Run}
 use Rattle.heap_model.specs.State as state
-use Rattle.heap_model.specs.State.{State, Setting, Span, Place, Status, Live, InHand, address, room, live_size, is_live, has_address, is_kind, is_layer, all_places, by_address, live, place_at}
-use Rattle.heap_model.specs.Ranges.{is_of_kind}
+use Rattle.heap_model.specs.State.{State, Setting, Span, Place, Status, Live, InHand, Area, address, room, live_size, is_live, has_address, is_layer, all_places, by_address, live, place_at}
+use Rattle.heap_model.specs.Ranges.{is_of_kind, vs_spans}
 use Rattle.heap_model.specs.Legal.{has_place, lies_in}
 use Rattle.page_ranges.specs.Words.{runs_of}
 use Rattle.page_ranges.specs.Ranges.{AreRuns}
 use Rattle.page_ranges.specs.Spans.{block_of, is_of_span}
-use Rattle.page_ranges.proofs.Blocks.{backs_rise}
-use Rattle.layout_decode.specs.Decode.{decode}
+use Rattle.vs_headers.specs.declared.Head.{Head}
+use Rattle.vs_headers.specs.Headers.{IsHead, encoded, decoded}
+use Rattle.vs_headers.proofs.HeaderLemmas.{decodes}
+use Rattle.vs_split.specs.Shown.{head_shown}
+use Rattle.layout_decode.specs.Decode.{head_told, blocks_of, decode}
 use Rattle.layout_decode.specs.Shows.{Shows, run_of_span, unused_in}
 use Rattle.layout_decode.specs.declared.Image.{Image}
-use Rattle.heap_soundness.specs.Sound.{IsOneOf, IsSound, IsSoundSpan, IsInBack, HasSoundSize, HasSoundBlocks, HasRoom}
+use Rattle.heap_soundness.specs.Sound.{IsOneOf, IsSound, IsSoundSpan, IsCommittedSpan, IsInBack, IsInVs, HasSoundSize, HasSoundBlocks, HasRoom}
+use Rattle.heap_soundness.specs.Invariant.{IsVsSound}
 use Rattle.heap_soundness.specs.Legal.{HaveOneAddress}
 use Rattle.heap_soundness.proofs.Lists.{all_at, all_from, found_in, found_passes, any_in}
 use Rattle.heap_soundness.proofs.GapRuns.{filtered_cases, in_filtered}
 use Rattle.heap_soundness.proofs.Enums.{kind_is, layer_is}
-use Rattle.heap_soundness.proofs.Spans.{same_first}
-use Rattle.decode_laws.specs.Told.{is_of_back, back_blocks, OnlyBackLives, IsBackWhole}
-use Rattle.decode_laws.proofs.Members.{in_parts, in_left, in_right, in_mapped, from_mapped, in_chosen, in_sorted, filtered_whole}
-use Rattle.decode_laws.proofs.Rising.{picked_order, blocks_order, same_blocks}
+use Rattle.heap_soundness.proofs.Spans.{above, same_first}
+use Rattle.decode_laws.specs.Told.{is_told, told_blocks, AreLive, OnlyToldLive, IsBackWhole}
+use Rattle.decode_laws.proofs.Members.{in_parts, in_left, in_right, in_mapped, from_mapped, in_flat, from_flat, in_chosen, in_sorted, filtered_whole}
+use Rattle.decode_laws.proofs.Rising.{ByAddress, LiesIn, picked_order, flat_order, same_blocks}
+use Rattle.decode_laws.proofs.Chunks.{AreKnown}
+use Rattle.decode_laws.proofs.Walk.{vs_block, IsBlockIn, span_found, span_order, span_has}
 
 abbrev back_block : ℕ → ℕ → Block
 back_block addr size = record { addr = addr; size = size; layer = layers.Back }
-
-abbrev is_back_run : Run → Bool
-is_back_run r = is_kind r.mark.kind kinds.Back
 
 -- the unused bytes of a run have room in its descriptor
 unused_fits : (words : List ℕ) (from to : ℕ) (rs : List Run) (r : Run) → AreRuns words from to rs → IsOneOf r rs → r.mark.unused < 65536
@@ -45,6 +48,22 @@ unused_fits words from to (q ∷ rs) r a (inl e) = subst (λ (x : Run). x.mark.u
   | inr m ↦ m.fields.unused
 ])
 unused_fits words from to (q ∷ rs) r a (inr i) = unused_fits words (from + q.pages) to rs r a.2 i
+
+-- .. and it has a page
+some_pages : (words : List ℕ) (from to : ℕ) (rs : List Run) (r : Run) → AreRuns words from to rs → IsOneOf r rs → 0 < r.pages
+some_pages words from to [] r a i = absurd i
+some_pages words from to (q ∷ rs) r a (inl e) = subst (λ (x : Run). 0 < x.pages) e a.1.some
+some_pages words from to (q ∷ rs) r a (inr i) = some_pages words (from + q.pages) to rs r a.2 i
+
+-- a span of usable pages lies in one segment
+pub short_span : (a : Area) (x : Span) → 0 < x.pages → IsCommittedSpan a x → x.pages ≤ 254
+short_span a x p c = elim (cases_lt 256 (x.first % 256 + x.pages)) [
+  | inl l ↦ let h = behind (256 * (x.first / 256 + 1)) (omega arith) (omega arith) in absurd (omega arith)
+  | inr l ↦ let h = behind x.first (omega arith) (omega arith) in omega arith
+]
+  where
+    behind : (unit : ℕ) → x.first ≤ unit → unit < x.first + x.pages → 2 ≤ unit % 256
+    behind unit l h = leb-true 2 (unit % 256) (and_parts (ltb (unit / 256) a.reserved) (leb 2 (unit % 256)) (c unit l h).0).1
 
 -- The span has a place, with a live block.
 record HasBlock (ps : List Place) (x : Span) : Type 0 where
@@ -74,7 +93,36 @@ room_is p e = ap (λ (l : Layer). cond (is_layer l layers.Vs) (16 * p.granules -
 other_layer : (p : Place) (l : Layer) → p.layer ≡ l → p.layer ≡ layers.Back → is_layer l layers.Back ≡ true
 other_layer p l e f = ap (λ (k : Layer). is_layer k layers.Back) (sym e ∙ f)
 
-module _ (s : Setting) (st : State) (image : Image) (l : Limits) (sound : IsSound s st) (one : HaveOneAddress st) (blocks : HasSoundBlocks st) (shown : Shows image l st) where
+vs_address : (p : Place) → p.layer ≡ layers.Vs → address p ≡ p.start + 16
+vs_address p e = ap (λ (l : Layer). cond (is_layer l layers.Vs) (p.start + 16) p.start) e
+
+told_of_back : (b : Block) → b.layer ≡ layers.Back → is_told b ≡ true
+told_of_back b e = ap (λ (l : Layer). is_layer l layers.Back || is_layer l layers.Vs) e
+
+told_of_vs : (b : Block) → b.layer ≡ layers.Vs → is_told b ≡ true
+told_of_vs b e = ap (λ (l : Layer). is_layer l layers.Back || is_layer l layers.Vs) e
+
+block_fields : (b : Block) (l : Layer) (a n : ℕ) → a ≡ b.addr → n ≡ b.size → l ≡ b.layer → record { addr = a; size = n; layer = l } ≡ b
+block_fields b l a n e f g =
+    ap (λ (z : ℕ). let d : Block = record { addr = z; size = n; layer = l } in d) e
+    ∙ (ap (λ (z : ℕ). let d : Block = record { addr = b.addr; size = z; layer = l } in d) f
+    ∙ ap (λ (z : Layer). let d : Block = record { addr = b.addr; size = b.size; layer = z } in d) g)
+
+not_live : (ps : List Place) (p : Place) (n : ℕ) → AllByRecursion (λ q. is_live q.status ≡ false) ps → IsOneOf p ps → p.status ≡ Live n → ⊥
+not_live ps p n a i e = false≢true (sym (all_at (λ (q : Place). is_live q.status ≡ false) p ps a i) ∙ ap is_live e)
+
+-- a place of another layer is not one of the variable-size layer
+vs_only : (p : Place) (l : Layer) → p.layer ≡ l → p.layer ≡ layers.Vs → is_layer l layers.Vs ≡ false → ⊥
+vs_only p l e f g = false≢true (sym g ∙ ap (λ (k : Layer). is_layer k layers.Vs) (sym e ∙ f))
+
+-- what is known of a state of a legal history
+pub record IsKnownState (s : Setting) (st : State) : Type 0 where
+  pub sound : IsSound s st
+  pub vs : IsVsSound st.back.area.spans st.vs.places
+  pub one : HaveOneAddress st
+  pub blocks : HasSoundBlocks st
+
+module _ (s : Setting) (st : State) (image : Image) (known : IsKnownState s st) (shown : Shows image s st) where
   run_there : (x : Span) → IsOneOf x st.back.area.spans → IsOneOf (run_of_span st.back.places x) (runs_of image.descs)
   run_there x i =
       let j = in_mapped (run_of_span st.back.places) x st.back.area.spans i in
@@ -84,7 +132,7 @@ module _ (s : Setting) (st : State) (image : Image) (l : Limits) (sound : IsSoun
   has_block : (x : Span) → IsOneOf x st.back.area.spans → x.kind ≡ kinds.Back → HasBlock st.back.places x
   has_block x i k =
       let fits = unused_fits image.descs 0 (length image.descs) (runs_of image.descs) (run_of_span st.back.places x) shown.whole (run_there x i) in
-      let kind : IsSoundSpan s st.vs.active x x.kind = all_at (λ (y : Span). IsSoundSpan s st.vs.active y y.kind) x st.back.area.spans sound.of_kinds i in
+      let kind : IsSoundSpan s st.vs.active x x.kind = all_at (λ (y : Span). IsSoundSpan s st.vs.active y y.kind) x st.back.area.spans known.sound.of_kinds i in
       let pages : IsSoundSpan s st.vs.active x kinds.Back = subst (IsSoundSpan s st.vs.active x) k kind in
       block_in st.back.places x pages.0 (subst (λ (j : Kind). unused_in st.back.places x j < 65536) k fits)
 
@@ -92,7 +140,7 @@ module _ (s : Setting) (st : State) (image : Image) (l : Limits) (sound : IsSoun
   of_back p i = in_left p (st.lfh ++ st.vs.places ++ st.back.places) st.large (in_right p (st.lfh ++ st.vs.places) st.back.places i)
 
   layer_at : (p : Place) → IsOneOf p st.back.places → p.layer ≡ layers.Back
-  layer_at p i = all_at (λ (q : Place). q.layer ≡ layers.Back) p st.back.places sound.homes.back i
+  layer_at p i = all_at (λ (q : Place). q.layer ≡ layers.Back) p st.back.places known.sound.homes.back i
 
   -- What is known of the place of a span.
   record IsPlaceOf (x : Span) (p : Place) : Type 0 where
@@ -108,14 +156,14 @@ module _ (s : Setting) (st : State) (image : Image) (l : Limits) (sound : IsSoun
       let layer = layer_at w.place there in
       let at = eqb-true (address w.place) (4096 * x.first) (found_passes (has_address (4096 * x.first)) st.back.places w.place w.found) in
       let start : w.place.start ≡ 4096 * x.first = sym (address_is w.place layer) ∙ at in
-      let b : IsInBack st.back.area.spans w.place.start w.place.granules = all_at (λ (p : Place). IsInBack st.back.area.spans p.start p.granules) w.place st.back.places sound.places.back there in
-      let same : b.span ≡ x = same_first 0 st.back.area.spans b.span x sound.spans.in_order b.there i (let e = b.begins in omega (arith, e, start)) in
+      let b : IsInBack st.back.area.spans w.place.start w.place.granules = all_at (λ (p : Place). IsInBack st.back.area.spans p.start p.granules) w.place st.back.places known.sound.places.back there in
+      let same : b.span ≡ x = same_first 0 st.back.area.spans b.span x known.sound.spans.in_order b.there i (let e = b.begins in omega (arith, e, start)) in
       record { there = there; layer = layer; at = at; start = start; whole = b.whole ∙ ap (λ (y : Span). 256 * y.pages) same }
 
   size_in : (x : Span) → IsOneOf x st.back.area.spans → (w : HasBlock st.back.places x) → w.size ≤ 4096 * x.pages
   size_in x i w =
       let p = place_of x i w in
-      let h = all_at (λ (q : Place). HasSoundSize q q.status) w.place st.back.places sound.sizes.back p.there in
+      let h = all_at (λ (q : Place). HasSoundSize q q.status) w.place st.back.places known.sound.sizes.back p.there in
       let fits : w.size ≤ room w.place = (subst (HasSoundSize w.place) w.live h).0 in
       let room = room_is w.place p.layer in
       let whole = p.whole in
@@ -133,43 +181,30 @@ module _ (s : Setting) (st : State) (image : Image) (l : Limits) (sound : IsSoun
       let size : 4096 * x.pages - unused_in st.back.places x x.kind ≡ w.size = omega (arith, unused, fits) in
       ap (back_block (4096 * x.first)) size
 
-  -- the block of a span is live
-  live_block : (x : Span) → IsOneOf x st.back.area.spans → (w : HasBlock st.back.places x) → IsOneOf (back_block (4096 * x.first) w.size) (back_blocks st)
-  live_block x i w =
-      let p = place_of x i w in
-      let b : state.block_of w.place ≡ Some (back_block (4096 * x.first) w.size) =
-      ap (λ (t : Status). option_map (λ (n : ℕ). record { addr = address w.place; size = n; layer = w.place.layer }) (live_size t)) w.live
-      ∙ (ap (λ (a : ℕ). Some (record { addr = a; size = w.size; layer = w.place.layer })) p.at
-      ∙ ap (λ (k : Layer). Some (record { addr = 4096 * x.first; size = w.size; layer = k })) p.layer) in
-      in_filtered is_of_back (back_block (4096 * x.first) w.size) (live st) refl
-      (in_chosen state.block_of w.place (back_block (4096 * x.first) w.size) (by_address (all_places st)) b
-      (in_sorted w.place (all_places st) (of_back w.place p.there)))
+  -- the block of a live place of these layers is one of those told
+  live_place : (p : Place) (b : Block) → IsOneOf p (all_places st) → p.status ≡ Live b.size → address p ≡ b.addr → p.layer ≡ b.layer → is_told b ≡ true → IsOneOf b (told_blocks st)
+  live_place p b i status at layer told =
+      let e : state.block_of p ≡ Some b =
+      ap (λ (t : Status). option_map (λ (n : ℕ). record { addr = address p; size = n; layer = p.layer }) (live_size t)) status
+      ∙ (ap (λ (a : ℕ). Some (record { addr = a; size = b.size; layer = p.layer })) at
+      ∙ ap (λ (k : Layer). Some (record { addr = b.addr; size = b.size; layer = k })) layer) in
+      in_filtered is_told b (live st) told (in_chosen state.block_of p b (by_address (all_places st)) e (in_sorted p (all_places st) i))
 
-  live_span : (x : Span) (b : Block) → IsOneOf x st.back.area.spans → x.kind ≡ kinds.Back → block_of 4096 (run_of_span st.back.places x) ≡ b → IsOneOf b (back_blocks st)
-  live_span x b i k e = let w = has_block x i k in subst (λ (d : Block). IsOneOf d (back_blocks st)) (sym (block_is x i k w) ∙ e) (live_block x i w)
-
-  live_run : (r : Run) (b : Block) → IsOneOf r (runs_of image.descs) → r.mark.kind ≡ kinds.Back → block_of 4096 r ≡ b → IsOneOf b (back_blocks st)
-  live_run r b i k e =
-      let taken = in_filtered (λ (q : Run). is_of_span q.mark.kind) r (runs_of image.descs) (ap is_of_span k) i in
-      let f = from_mapped (run_of_span st.back.places) st.back.area.spans r (subst (λ (rs : List Run). IsOneOf r rs) shown.spans taken) in
-      live_span f.0 b f.1 (ap (λ (q : Run). q.mark.kind) f.2 ∙ k) (ap (block_of 4096) f.2 ∙ e)
-
-  -- each block that the descriptors tell of is live
-  told_live : (b : Block) → IsOneOf b (decode image.descs) → IsOneOf b (back_blocks st)
-  told_live b i =
-      let f = from_mapped (block_of 4096) (filter is_back_run (runs_of image.descs)) b i in
-      let r = filtered_cases is_back_run f.0 (runs_of image.descs) f.1 in
-      live_run f.0 b r.0 (kind_is f.0.mark.kind kinds.Back r.1) f.2
+  -- the span that a run is
+  span_of_run : (r : Run) → IsOneOf r (runs_of image.descs) → is_of_span r.mark.kind ≡ true → (x : Span) × IsOneOf x st.back.area.spans × (run_of_span st.back.places x ≡ r)
+  span_of_run r i k =
+      let taken = in_filtered (λ (q : Run). is_of_span q.mark.kind) r (runs_of image.descs) k i in
+      from_mapped (run_of_span st.back.places) st.back.area.spans r (subst (λ (rs : List Run). IsOneOf r rs) shown.spans taken)
 
   -- a place of the layer is one of the back end's
   in_back : (p : Place) → IsOneOf p (all_places st) → p.layer ≡ layers.Back → IsOneOf p st.back.places
   in_back p i e = elim (in_parts p (st.lfh ++ st.vs.places ++ st.back.places) st.large i) [
-    | inr j ↦ absurd (false≢true (other_layer p layers.Large (all_at (λ (q : Place). q.layer ≡ layers.Large) p st.large sound.homes.large j) e))
+    | inr j ↦ absurd (false≢true (other_layer p layers.Large (all_at (λ (q : Place). q.layer ≡ layers.Large) p st.large known.sound.homes.large j) e))
     | inl j ↦ elim (in_parts p (st.lfh ++ st.vs.places) st.back.places j) [
       | inr k ↦ k
       | inl k ↦ elim (in_parts p st.lfh st.vs.places k) [
-        | inl h ↦ absurd (false≢true (other_layer p layers.Lfh (all_at (λ (q : Place). q.layer ≡ layers.Lfh) p st.lfh sound.homes.lfh h) e))
-        | inr h ↦ absurd (false≢true (other_layer p layers.Vs (all_at (λ (q : Place). q.layer ≡ layers.Vs) p st.vs.places sound.homes.vs h) e))
+        | inl h ↦ absurd (false≢true (other_layer p layers.Lfh (all_at (λ (q : Place). q.layer ≡ layers.Lfh) p st.lfh known.sound.homes.lfh h) e))
+        | inr h ↦ absurd (false≢true (other_layer p layers.Vs (all_at (λ (q : Place). q.layer ≡ layers.Vs) p st.vs.places known.sound.homes.vs h) e))
       ]
     ]
   ]
@@ -179,71 +214,173 @@ module _ (s : Setting) (st : State) (image : Image) (l : Limits) (sound : IsSoun
   found_is x p i w j e =
       let q = place_of x i w in
       let a : address p ≡ address w.place = address_is p (layer_at p j) ∙ (e ∙ sym q.at) in
-      let here = one.place w.place (of_back w.place q.there) 0 in
-      let there = one.place p (of_back p j) 0 in
+      let here = known.one.place w.place (of_back w.place q.there) 0 in
+      let there = known.one.place p (of_back p j) 0 in
       let both : Some w.place ≡ Some p = sym here ∙ (ap (λ (n : ℕ). place_at st 0 n) (sym a) ∙ there) in
       (let same : w.place ≡ p = cc in same)
 
-  -- the block of a span is told of
-  told_span : (x : Span) (b : Block) → IsOneOf x st.back.area.spans → x.kind ≡ kinds.Back → block_of 4096 (run_of_span st.back.places x) ≡ b → IsOneOf b (decode image.descs)
-  told_span x b i k e =
-      let back : is_back_run (run_of_span st.back.places x) ≡ true = ap (λ (j : Kind). is_kind j kinds.Back) k in
-      subst (λ (d : Block). IsOneOf d (decode image.descs)) e
-      (in_mapped (block_of 4096) (run_of_span st.back.places x) (filter is_back_run (runs_of image.descs))
-      (in_filtered is_back_run (run_of_span st.back.places x) (runs_of image.descs) back (run_there x i)))
+  in_vs : (p : Place) → IsOneOf p (all_places st) → p.layer ≡ layers.Vs → IsOneOf p st.vs.places
+  in_vs p i e = elim (in_parts p (st.lfh ++ st.vs.places ++ st.back.places) st.large i) [
+    | inr j ↦ absurd (vs_only p layers.Large (all_at (λ (q : Place). q.layer ≡ layers.Large) p st.large known.sound.homes.large j) e refl)
+    | inl j ↦ elim (in_parts p (st.lfh ++ st.vs.places) st.back.places j) [
+      | inr k ↦ absurd (vs_only p layers.Back (layer_at p k) e refl)
+      | inl k ↦ elim (in_parts p st.lfh st.vs.places k) [
+        | inl h ↦ absurd (vs_only p layers.Lfh (all_at (λ (q : Place). q.layer ≡ layers.Lfh) p st.lfh known.sound.homes.lfh h) e refl)
+        | inr h ↦ h
+      ]
+    ]
+  ]
 
-  told_place : (x : Span) (p : Place) (b : Block) → IsOneOf x st.back.area.spans → x.kind ≡ kinds.Back → IsOneOf p st.back.places → p.start ≡ 4096 * x.first →
-      p.status ≡ Live b.size → address p ≡ b.addr → b.layer ≡ layers.Back → IsOneOf b (decode image.descs)
-  told_place x p b i k there start status at layer =
-      let w = has_block x i k in
-      let lives : Live w.size ≡ Live b.size = sym w.live ∙ (ap (λ (q : Place). q.status) (found_is x p i w there start) ∙ status) in
-      let size : w.size ≡ b.size = cc in
-      let addr : 4096 * x.first ≡ b.addr = sym start ∙ (sym (address_is p (layer_at p there)) ∙ at) in
-      told_span x b i k (block_is x i k w ∙ fields (4096 * x.first) w.size addr size)
-    where
-      fields : (a n : ℕ) → a ≡ b.addr → n ≡ b.size → back_block a n ≡ b
-      fields a n e f =
-          ap (λ (z : ℕ). back_block z n) e
-          ∙ (ap (back_block b.addr) f
-          ∙ ap (λ (z : Layer). record { addr = b.addr; size = b.size; layer = z }) (sym layer))
+  ---- Where no place of the variable-size layer is in hand
 
-  -- each live block of the back end is told of
-  live_told : (b : Block) → IsOneOf b (back_blocks st) → IsOneOf b (decode image.descs)
-  live_told b i =
-      let f = filtered_cases is_of_back b (live st) i in
-      let h : HasRoom (all_places st) b = all_at (HasRoom (all_places st)) b (live st) blocks.room f.0 in
-      let layer : b.layer ≡ layers.Back = sym (layer_is b.layer layers.Back f.1) in
-      let there = in_back h.place h.there (h.layer ∙ layer) in
-      let at : IsInBack st.back.area.spans h.place.start h.place.granules = all_at (λ (p : Place). IsInBack st.back.area.spans p.start p.granules) h.place st.back.places sound.places.back there in
-      told_place at.span h.place b at.there at.kind there at.begins h.live h.at layer
+  tells : (g : ℕ) (h : Head) → IsHead h → head_shown (vs_spans st.back.area) st.vs.places g ≡ Some h → head_told image g ≡ Some h
+  tells g h is e =
+      ap (λ (w : ℕ). decoded w image.key (16 * g)) (shown.headers g ∙ ap (λ (o : Option Head). option_map_or (λ (k : Head). encoded k image.key (16 * g)) o 0) e)
+      ∙ decodes h image.key (16 * g) is
 
-  pub told : decode image.descs ≡ back_blocks st
-  told = same_blocks (decode image.descs) (back_blocks st)
-      (blocks_order 0 (filter is_back_run (runs_of image.descs)) (backs_rise image.descs shown.whole))
-      (picked_order is_of_back (live st) blocks.in_order)
-      told_live live_told
+  module _ (hands : AreLive st.vs.places) where
+    layer_known : AreKnown st.back.area.spans st.vs.places
+    layer_known = record {
+      in_order = known.sound.spans.in_order;
+      short = all_from (λ (x : Span). x.pages ≤ 254) st.back.area.spans (λ x i.
+          short_span st.back.area x (above 0 st.back.area.spans x known.sound.spans.in_order i).1 (all_at (IsCommittedSpan st.back.area) x st.back.area.spans known.sound.spans.committed i));
+      sound = known.vs;
+      layer = known.sound.homes.vs;
+      sizes = known.sound.sizes.vs;
+      live = hands;
+    }
 
-  ---- Where only the back end has live blocks
+    -- the blocks of a run of the layer
+    abbrev run_blocks : Run → List Block
+    run_blocks r = blocks_of image r kinds.Vs
 
-  not_live : (ps : List Place) (p : Place) (n : ℕ) → AllByRecursion (λ q. is_live q.status ≡ false) ps → IsOneOf p ps → p.status ≡ Live n → ⊥
-  not_live ps p n a i e = false≢true (sym (all_at (λ (q : Place). is_live q.status ≡ false) p ps a i) ∙ ap is_live e)
+    found_in_span : (x : Span) (b : Block) → IsOneOf x st.back.area.spans → x.kind ≡ kinds.Vs → IsOneOf b (run_blocks (run_of_span st.back.places x)) →
+        IsBlockIn st.vs.places (256 * x.first + 3) (256 * (x.first + x.pages)) b
+    found_in_span x b i k j = span_found st.back.area.spans st.vs.places layer_known x i k (head_told image) tells b j
 
-  all_of_back : OnlyBackLives st → (b : Block) → IsOneOf b (live st) → is_of_back b ≡ true
-  all_of_back only b i =
-      let h : HasRoom (all_places st) b = all_at (HasRoom (all_places st)) b (live st) blocks.room i in
-      elim (in_parts h.place (st.lfh ++ st.vs.places ++ st.back.places) st.large h.there) [
-        | inr j ↦ absurd (not_live st.large h.place b.size only.large j h.live)
-        | inl j ↦ elim (in_parts h.place (st.lfh ++ st.vs.places) st.back.places j) [
-          | inr k ↦ ap (λ (y : Layer). is_layer y layers.Back) (sym h.layer ∙ layer_at h.place k)
-          | inl k ↦ elim (in_parts h.place st.lfh st.vs.places k) [
-            | inl m ↦ absurd (not_live st.lfh h.place b.size only.lfh m h.live)
-            | inr m ↦ absurd (not_live st.vs.places h.place b.size only.vs m h.live)
+    in_run : (x : Span) (b : Block) → IsOneOf x st.back.area.spans → x.kind ≡ kinds.Vs → IsOneOf b (run_blocks (run_of_span st.back.places x)) → LiesIn (run_of_span st.back.places x) b
+    in_run x b i k j =
+        let f = found_in_span x b i k j in
+        let a : f.place.start + 16 ≡ b.addr = ap (λ (d : Block). d.addr) f.is in
+        let low = f.low in
+        let high = f.high in
+        (omega arith, omega arith)
+
+    -- what is known of the blocks of a run
+    abbrev AreInRun : Run → List Block → Type 0
+    AreInRun r bs = AllByRecursion (LiesIn r) bs × ByAddress bs
+
+    in_vs_run : (r : Run) → IsOneOf r (runs_of image.descs) → r.mark.kind ≡ kinds.Vs → AreInRun r (run_blocks r)
+    in_vs_run r i k =
+        let f = span_of_run r i (ap is_of_span k) in
+        let x = f.0 in
+        let kind : x.kind ≡ kinds.Vs = ap (λ (q : Run). q.mark.kind) f.2 ∙ k in
+        subst (λ (q : Run). AreInRun q (run_blocks q)) f.2 (
+          all_from (LiesIn (run_of_span st.back.places x)) (run_blocks (run_of_span st.back.places x)) (λ b j. in_run x b f.1 kind j),
+          span_order st.back.area.spans st.vs.places layer_known x f.1 kind (head_told image) tells,
+        )
+
+    in_any_run : (r : Run) → IsOneOf r (runs_of image.descs) → (k : Kind) → r.mark.kind ≡ k → AreInRun r (blocks_of image r k)
+    in_any_run r i kinds.Header k = (tt, tt)
+    in_any_run r i kinds.Free k = (tt, tt)
+    in_any_run r i kinds.Lfh k = (tt, tt)
+    in_any_run r i kinds.Back k = let some = some_pages image.descs 0 (length image.descs) (runs_of image.descs) r shown.whole i in (((omega arith, omega arith), tt), (tt, tt))
+    in_any_run r i kinds.Vs k = in_vs_run r i k
+
+    -- each block that the image tells of is live
+    of_vs_span : (x : Span) (b : Block) → IsOneOf x st.back.area.spans → x.kind ≡ kinds.Vs → IsOneOf b (run_blocks (run_of_span st.back.places x)) → IsOneOf b (told_blocks st)
+    of_vs_span x b i k j =
+        let f = found_in_span x b i k j in
+        let layer = all_at (λ (q : Place). q.layer ≡ layers.Vs) f.place st.vs.places known.sound.homes.vs f.there in
+        let of_vs : layers.Vs ≡ b.layer = ap (λ (d : Block). d.layer) f.is in
+        live_place f.place b (in_left f.place (st.lfh ++ st.vs.places ++ st.back.places) st.large (in_left f.place (st.lfh ++ st.vs.places) st.back.places (in_right f.place st.lfh st.vs.places f.there)))
+        (f.live ∙ ap (λ (d : Block). Live d.size) f.is) (vs_address f.place layer ∙ ap (λ (d : Block). d.addr) f.is) (layer ∙ of_vs) (told_of_vs b (sym of_vs))
+
+    of_back_span : (x : Span) (b : Block) → IsOneOf x st.back.area.spans → x.kind ≡ kinds.Back → block_of 4096 (run_of_span st.back.places x) ≡ b → IsOneOf b (told_blocks st)
+    of_back_span x b i k e =
+        let w = has_block x i k in
+        let p = place_of x i w in
+        let same : back_block (4096 * x.first) w.size ≡ b = sym (block_is x i k w) ∙ e in
+        let of_back_layer : layers.Back ≡ b.layer = ap (λ (d : Block). d.layer) same in
+        live_place w.place b (of_back w.place p.there) (w.live ∙ ap (λ (d : Block). Live d.size) same) (p.at ∙ ap (λ (d : Block). d.addr) same) (p.layer ∙ of_back_layer) (told_of_back b (sym of_back_layer))
+
+    of_run : (r : Run) (b : Block) → IsOneOf r (runs_of image.descs) → (k : Kind) → r.mark.kind ≡ k → IsOneOf b (blocks_of image r k) → IsOneOf b (told_blocks st)
+    of_run r b i kinds.Header k j = absurd j
+    of_run r b i kinds.Free k j = absurd j
+    of_run r b i kinds.Lfh k j = absurd j
+    of_run r b i kinds.Back k j =
+        let f = span_of_run r i (ap is_of_span k) in
+        let e : block_of 4096 r ≡ b = elim j [ inl e ↦ e | inr n ↦ absurd n ] in
+        of_back_span f.0 b f.1 (ap (λ (q : Run). q.mark.kind) f.2 ∙ k) (ap (block_of 4096) f.2 ∙ e)
+    of_run r b i kinds.Vs k j =
+        let f = span_of_run r i (ap is_of_span k) in
+        of_vs_span f.0 b f.1 (ap (λ (q : Run). q.mark.kind) f.2 ∙ k) (subst (λ (q : Run). IsOneOf b (run_blocks q)) (sym f.2) j)
+
+    told_live : (b : Block) → IsOneOf b (decode image) → IsOneOf b (told_blocks st)
+    told_live b i = let f = from_flat (λ (r : Run). blocks_of image r r.mark.kind) (runs_of image.descs) b i in of_run f.0 b f.1 f.0.mark.kind refl f.2
+
+    -- each live block of these layers is told of
+    by_span : (x : Span) (k : Kind) (b : Block) → IsOneOf x st.back.area.spans → x.kind ≡ k → IsOneOf b (blocks_of image (run_of_span st.back.places x) k) → IsOneOf b (decode image)
+    by_span x k b i e j = in_flat (λ (r : Run). blocks_of image r r.mark.kind) (run_of_span st.back.places x) b (runs_of image.descs) (run_there x i)
+        (subst (λ (q : Kind). IsOneOf b (blocks_of image (run_of_span st.back.places x) q)) (sym e) j)
+
+    of_back_place : (p : Place) (b : Block) → IsOneOf p st.back.places → p.status ≡ Live b.size → address p ≡ b.addr → p.layer ≡ b.layer → IsOneOf b (decode image)
+    of_back_place p b i status at layer =
+        let home : IsInBack st.back.area.spans p.start p.granules = all_at (λ (q : Place). IsInBack st.back.area.spans q.start q.granules) p st.back.places known.sound.places.back i in
+        let w = has_block home.span home.there home.kind in
+        let q = place_of home.span home.there w in
+        let same : w.place ≡ p = found_is home.span p home.there w i home.begins in
+        let size : Live w.size ≡ Live b.size = sym w.live ∙ (ap (λ (r : Place). r.status) same ∙ status) in
+        let n : w.size ≡ b.size = cc in
+        let addr : 4096 * home.span.first ≡ b.addr = sym q.at ∙ (ap address same ∙ at) in
+        let e : block_of 4096 (run_of_span st.back.places home.span) ≡ b = block_is home.span home.there home.kind w ∙ block_fields b layers.Back (4096 * home.span.first) w.size addr n (sym (layer_at p i) ∙ layer) in
+        by_span home.span kinds.Back b home.there home.kind (inl e)
+
+    of_vs_place : (p : Place) (b : Block) → IsOneOf p st.vs.places → p.status ≡ Live b.size → address p ≡ b.addr → p.layer ≡ b.layer → IsOneOf b (decode image)
+    of_vs_place p b i status at layer =
+        let home : IsInVs st.back.area.spans p.start p.granules = all_at (λ (q : Place). IsInVs st.back.area.spans q.start q.granules) p st.vs.places known.sound.places.vs i in
+        let behind = home.behind in
+        let before = home.before in
+        let two = home.two in
+        let of_vs = all_at (λ (q : Place). q.layer ≡ layers.Vs) p st.vs.places known.sound.homes.vs i in
+        let there = span_has st.back.area.spans st.vs.places layer_known home.span home.there home.kind (head_told image) tells p b.size i status (omega arith) (omega arith) in
+        let e : vs_block p.start b.size ≡ b = block_fields b layers.Vs (p.start + 16) b.size (sym (vs_address p of_vs) ∙ at) refl (sym of_vs ∙ layer) in
+        by_span home.span kinds.Vs b home.there home.kind (subst (λ (d : Block). IsOneOf d (run_blocks (run_of_span st.back.places home.span))) e there)
+
+    live_told : (b : Block) → IsOneOf b (told_blocks st) → IsOneOf b (decode image)
+    live_told b i =
+        let f = filtered_cases is_told b (live st) i in
+        let h : HasRoom (all_places st) b = all_at (HasRoom (all_places st)) b (live st) known.blocks.room f.0 in
+        elim (or_cases (is_layer b.layer layers.Back) (is_layer b.layer layers.Vs) f.1) [
+          | inl e ↦ of_back_place h.place b (in_back h.place h.there (h.layer ∙ sym (layer_is b.layer layers.Back e))) h.live h.at h.layer
+          | inr e ↦ of_vs_place h.place b (in_vs h.place h.there (h.layer ∙ sym (layer_is b.layer layers.Vs e))) h.live h.at h.layer
+        ]
+
+    pub told : decode image ≡ told_blocks st
+    told = same_blocks (decode image) (told_blocks st)
+        (flat_order (λ (r : Run). blocks_of image r r.mark.kind) image.descs 0 (length image.descs) (runs_of image.descs) shown.whole
+        (λ r i. (in_any_run r i r.mark.kind refl).0) (λ r i. (in_any_run r i r.mark.kind refl).1))
+        (picked_order is_told (live st) known.blocks.in_order)
+        told_live live_told
+
+    ---- Where only these layers have live blocks
+
+    all_told : OnlyToldLive st → (b : Block) → IsOneOf b (live st) → is_told b ≡ true
+    all_told only b i =
+        let h : HasRoom (all_places st) b = all_at (HasRoom (all_places st)) b (live st) known.blocks.room i in
+        elim (in_parts h.place (st.lfh ++ st.vs.places ++ st.back.places) st.large h.there) [
+          | inr j ↦ absurd (not_live st.large h.place b.size only.large j h.live)
+          | inl j ↦ elim (in_parts h.place (st.lfh ++ st.vs.places) st.back.places j) [
+            | inr k ↦ told_of_back b (sym h.layer ∙ layer_at h.place k)
+            | inl k ↦ elim (in_parts h.place st.lfh st.vs.places k) [
+              | inl m ↦ absurd (not_live st.lfh h.place b.size only.lfh m h.live)
+              | inr m ↦ told_of_vs b (sym h.layer ∙ all_at (λ (q : Place). q.layer ≡ layers.Vs) h.place st.vs.places known.sound.homes.vs m)
+            ]
           ]
         ]
-      ]
 
-  pub told_all : OnlyBackLives st → decode image.descs ≡ live st
-  told_all only = told ∙ filtered_whole is_of_back (live st) (all_of_back only)
+    pub told_whole : OnlyToldLive st → decode image ≡ live st
+    told_whole only = told ∙ filtered_whole is_told (live st) (all_told only)
 
   ---- What an image can show
 
@@ -262,7 +399,7 @@ module _ (s : Setting) (st : State) (image : Image) (l : Limits) (sound : IsSoun
         any_in (lies_in 4096 x) st.back.places w.place p.there
         (and_from _ _ (le-leb (4096 * x.first) w.place.start (omega (arith, start))) (le-leb (w.place.start + 16 * w.place.granules) (4096 * (x.first + x.pages)) (omega (arith, start, whole)))));
     live = all_from (λ (p : Place). is_live p.status ≡ true) st.back.places (λ p i.
-        let at : IsInBack st.back.area.spans p.start p.granules = all_at (λ (q : Place). IsInBack st.back.area.spans q.start q.granules) p st.back.places sound.places.back i in
+        let at : IsInBack st.back.area.spans p.start p.granules = all_at (λ (q : Place). IsInBack st.back.area.spans q.start q.granules) p st.back.places known.sound.places.back i in
         let w = has_block at.span at.there at.kind in
         ap (λ (q : Place). is_live q.status) (sym (found_is at.span p at.there w i at.begins)) ∙ ap is_live w.live);
   }

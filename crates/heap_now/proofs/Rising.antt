@@ -1,6 +1,6 @@
 -- Runs of blocks in the order of their pages, and the places that they are.
-use Rattle.std.proofs.Common.{◌≡◌, ℕ, ◌+◌, ◌*◌, ◌<◌, ◌≤◌, Bool, true, false, ◌&&◌, List, [], ◌∷◌, map, Some, None, refl, sym, ap, subst, ◌∙◌, arith, eqb, leb, ltb, inl, inr}
-use Rattle.std.specs.Prelude.{option_map}
+use Rattle.std.proofs.Common.{◌≡◌, ℕ, ◌+◌, ◌*◌, ◌<◌, ◌≤◌, Bool, true, false, ◌&&◌, ◌||◌, List, [], ◌∷◌, map, Some, None, refl, sym, ap, subst, ◌∙◌, arith, eqb, leb, ltb, inl, inr}
+use Rattle.std.specs.Prelude.{option_map, filter}
 use Rattle.std.specs.List.{AllByRecursion, find, list_any}
 use Rattle.std.proofs.lemmas.Bool.{cases_Bool, and_from, and_parts, eq-eqb, ne_eqb, eqb-true, le-leb, lt-leb, lt-ltb, le-ltb, ltb-true, ltb-false, or_left, or_right}
 use Rattle.heap_model.specs.declared.Kind.{Kind}
@@ -12,7 +12,7 @@ use Rattle.heap_model.specs.Legal.{lies_in, has_place, are_used}
 use Rattle.page_ranges.specs.Spans.{span_of, AreRising}
 use Rattle.backend_fit.specs.Kept.{insert_run, starts_at}
 use Rattle.serial_laws.proofs.Sorted.{OnlyOne}
-use Rattle.heap_now.specs.Blocks.{is_block_at}
+use Rattle.heap_now.specs.Blocks.{is_block_run, is_block_at}
 use Rattle.heap_now.specs.Standing.{place_of, IsBlockRun}
 
 block_kind : (k : Kind) → k ≡ kinds.Back → is_kind k kinds.Back ≡ true
@@ -132,15 +132,16 @@ own_place r =
     let b = le-leb (4096 * r.first + 16 * (256 * r.pages)) (4096 * (r.first + r.pages)) (omega arith) in
     rw (a, b) refl
 
--- each span has its place among places that have those of its runs
-pub all_used : (ps : List Place) (rs : List Run) → ((test : Place → Bool) → list_any test (map place_of rs) ≡ true → list_any test ps ≡ true) → are_used 4096 kinds.Back ps (map span_of rs) ≡ true
+-- each span of the back end has its place among places that have those of its blocks
+pub all_used : (ps : List Place) (rs : List Run) → ((test : Place → Bool) → list_any test (map place_of (filter is_block_run rs)) ≡ true → list_any test ps ≡ true) → are_used 4096 kinds.Back ps (map span_of rs) ≡ true
 all_used ps [] h = refl
-all_used ps (r ∷ rs) h =
-    let rest = all_used ps rs (λ test k. h test (or_right (test (place_of r)) (list_any test (map place_of rs)) k)) in
-    elim (cases_Bool (is_kind r.mark.kind kinds.Back)) [
-      | inl e ↦ rw e (and_from (has_place 4096 ps (span_of r)) _ (h (lies_in 4096 (span_of r)) (or_left (lies_in 4096 (span_of r) (place_of r)) (list_any (lies_in 4096 (span_of r)) (map place_of rs)) (own_place r))) rest)
-      | inr e ↦ rw e rest
-    ]
+all_used ps (r ∷ rs) h = elim (cases_Bool (is_block_run r)) [
+  | inl e ↦
+      let k : (test : Place → Bool) → (test (place_of r) || list_any test (map place_of (filter is_block_run rs))) ≡ true → list_any test ps ≡ true = rw e at h in
+      let rest = all_used ps rs (λ test l. k test (or_right (test (place_of r)) (list_any test (map place_of (filter is_block_run rs))) l)) in
+      rw e (and_from (has_place 4096 ps (span_of r)) _ (k (lies_in 4096 (span_of r)) (or_left (lies_in 4096 (span_of r) (place_of r)) (list_any (lies_in 4096 (span_of r)) (map place_of (filter is_block_run rs))) (own_place r))) rest)
+  | inr e ↦ let k : (test : Place → Bool) → list_any test (map place_of (filter is_block_run rs)) ≡ true → list_any test ps ≡ true = rw e at h in rw e (all_used ps rs k)
+]
 
 ---- One more, and one less
 
@@ -165,22 +166,29 @@ blocks_removed first (q ∷ qs) h = elim (cases_Bool (eqb q.first first)) [
   | inr e ↦ rw e (h.0, blocks_removed first qs h.1)
 ]
 
--- the span of a block that is found
-pub span_found : (addr : ℕ) (rs : List Run) (r : Run) → AllByRecursion IsBlockRun rs → find (is_block_at addr) rs ≡ Some r → find (begins_at r.first) (map span_of rs) ≡ Some (span_of r)
-span_found addr [] r b f = absurd (let z : ⊥ = cc in z)
-span_found addr (x ∷ xs) r b f = elim (cases_Bool (eqb (4096 * x.first) addr)) [
+-- the run of a block that is found is that of its first page
+pub start_found : (addr from : ℕ) (rs : List Run) (r : Run) → AreRising from rs → find (is_block_at addr) rs ≡ Some r → find (starts_at r.first) rs ≡ Some r
+start_found addr from [] r a f = absurd (let z : ⊥ = cc in z)
+start_found addr from (x ∷ xs) r a f = elim (cases_Bool (is_block_at addr x)) [
   | inl e ↦
-      let t = is_at addr x b.0 ∙ e in
-      let is : Some x ≡ Some r = rw t at f in
+      let is : Some x ≡ Some r = rw e at f in
       let same : x ≡ r = cc in
       let k = eq-eqb x.first r.first (ap (λ (y : Run). y.first) same) in
-      rw k (ap (λ (y : Run). Some (span_of y)) same)
+      rw k (ap Some same)
   | inr e ↦
-      let t = is_at addr x b.0 ∙ e in
-      let g = rw t at f in
-      let k = ne_eqb x.first r.first (λ z. differ x r addr (found_addr addr xs r g) e z) in
-      rw k (span_found addr xs r b.1 g)
+      let g = rw e at f in
+      let behind = found_from addr (x.first + x.pages) xs r a.2 g in
+      let k = ne_eqb x.first r.first (λ z. omega (arith, z, behind.0, a.1)) in
+      rw k (start_found addr (x.first + x.pages) xs r a.2 g)
 ]
-  where
-    differ : (x r : Run) (addr : ℕ) → 4096 * r.first ≡ addr → eqb (4096 * x.first) addr ≡ false → x.first ≡ r.first → ⊥
-    differ x r addr at e d = let t = eq-eqb (4096 * x.first) addr (omega (arith, at, d)) in let z : true ≡ false = sym t ∙ e in let y : ⊥ = cc in y
+
+-- .. and so is its span
+pub span_found : (first : ℕ) (rs : List Run) (r : Run) → find (starts_at first) rs ≡ Some r → find (begins_at first) (map span_of rs) ≡ Some (span_of r)
+span_found first [] r f = absurd (let z : ⊥ = cc in z)
+span_found first (x ∷ xs) r f = elim (cases_Bool (eqb x.first first)) [
+  | inl e ↦
+      let is : Some x ≡ Some r = rw e at f in
+      let same : x ≡ r = cc in
+      rw e (ap (λ (y : Run). Some (span_of y)) same)
+  | inr e ↦ rw e (span_found first xs r (rw e at f))
+]

@@ -1,23 +1,44 @@
 -- The image of a heap shows the state that the heap stands for.
-use Rattle.std.proofs.Common.{◌≡◌, ℕ, ◌+◌, ◌-◌, ◌*◌, ◌<◌, true, false, List, [], ◌∷◌, map, Option, Some, refl, sym, ap, subst, ◌∙◌, arith}
-use Rattle.std.specs.Prelude.{option_and_then, unwrap_or}
+use Rattle.std.proofs.Common.{◌≡◌, ℕ, ◌+◌, ◌-◌, ◌*◌, ◌<◌, true, false, List, [], ◌∷◌, map, Option, Some, refl, sym, ap, ◌∙◌, arith, inl, inr}
+use Rattle.std.specs.Prelude.{option_and_then, option_map, unwrap_or}
 use Rattle.std.specs.List.{AllByRecursion, find}
-use Rattle.std.proofs.lemmas.Bool.{eq-eqb, ne_eqb}
+use Rattle.std.specs.Option.{option_map_or, option_or}
+use Rattle.std.proofs.lemmas.Bool.{cases_Bool, eq-eqb, ne_eqb}
+use Rattle.heap_model.specs.declared.Kind.{Kind}
+use Rattle.heap_model.specs.declared.Kind.TheVariants as kinds
 use Rattle.heap_model.specs.declared.Run.{Run}
-use Rattle.heap_model.specs.State.{Area, Place, live_size}
+use Rattle.heap_model.specs.Runs as model
+use Rattle.heap_model.specs.State.{Area, Span, Place, is_kind, live_size}
 use Rattle.heap_model.specs.Backend.{free_runs}
+use Rattle.heap_model.specs.Ranges.{gaps_of, vs_spans}
 use Rattle.heap_model.specs.CallState.{Configuration}
-use Rattle.page_region.specs.Held.{Held}
-use Rattle.page_ranges.specs.Spans.{span_of, AreRising}
+use Rattle.heap_soundness.specs.Sound.{IsOneOf}
+use Rattle.heap_soundness.proofs.Lists.{all_at, all_from}
+use Rattle.heap_soundness.proofs.GapRuns.{in_filtered}
+use Rattle.serial_laws.proofs.Sorted.{found_sorted}
+use Rattle.page_ranges.specs.Words.{runs_of}
+use Rattle.page_ranges.specs.Ranges.{AreRuns, IsMark}
+use Rattle.page_ranges.specs.Spans.{is_of_span, span_of, taken_runs, AreRising}
 use Rattle.page_ranges.proofs.Blocks.{taken_rise}
 use Rattle.backend_fit.specs.Kept.{taken_in}
 use Rattle.backend_fit.specs.Sound.{IsSound}
 use Rattle.backend_fit.proofs.Segment.{frees_of}
+use Rattle.vs_headers.specs.declared.Head.{Head}
+use Rattle.vs_headers.specs.Headers.{encoded, key_of}
+use Rattle.vs_split.specs.Chunks.{head_at}
+use Rattle.vs_split.specs.Shown.{place_from, place_to, gap_from, gap_to, place_head, gap_head, head_shown}
+use Rattle.vs_layer.specs.Kept.{places_of}
+use Rattle.vs_layer.specs.Effects.{ShowsChunks}
 use Rattle.layout_decode.specs.Shows.{Shows, run_of_span, unused_in}
-use Rattle.heap_now.specs.Blocks.{is_block_at}
-use Rattle.heap_now.specs.Standing.{LoneHeap, IsBlockRun, Stands}
+use Rattle.heap_now.specs.Blocks.{is_block_run, block_runs, is_block_at}
+use Rattle.heap_now.specs.Standing.{LoneHeap, setting_of, IsBlockRun, Stands}
+use Rattle.heap_now.proofs.ByPlace.{gaps_sorted, one_start, one_end}
+use Rattle.heap_now.proofs.OfKind.{filter_rising}
 use Rattle.heap_now.proofs.Rising.{is_at}
+use Rattle.heap_now.proofs.Known.{vs_known, vs_by_start}
 use Rattle.heap_now.proofs.StandFree.{place_found}
+
+---- Runs
 
 abbrev IsFoundIn : List Run → Run → Type 0
 IsFoundIn rs q = find (is_block_at (4096 * q.first)) rs ≡ Some q
@@ -36,39 +57,84 @@ all_found from (r ∷ rs) a b =
     let e : is_block_at (4096 * r.first) r ≡ true = is_at (4096 * r.first) r b.0 ∙ eq-eqb (4096 * r.first) (4096 * r.first) refl in
     (rw e refl, behind_found r rs (r.first + r.pages) rs a.2 (omega (arith, a.1)) b.0 (all_found (r.first + r.pages) rs a.2 b.1))
 
-module _ (h : LoneHeap) (m : Configuration) (st : Stands h m) (sound : IsSound h.kept) where
-  -- the run of a block, from its span and its place
-  run_is : (r : Run) → IsBlockRun r → IsFoundIn (taken_in h.kept.words) r → run_of_span m.state.back.places (span_of r) ≡ r
-  run_is r b f =
-      let place = place_found h m st sound (4096 * r.first) r f in
-      let size : 4096 * r.pages - (4096 * r.pages - r.mark.unused) ≡ r.mark.unused = omega (arith, b.unused) in
-      let unused : unused_in m.state.back.places (span_of r) r.mark.kind ≡ r.mark.unused =
-      ap (unused_in m.state.back.places (span_of r)) b.kind
-      ∙ ap (λ (o : Option Place). 4096 * r.pages - unwrap_or (option_and_then (λ (p : Place). live_size p.status) o) 0) place
-      ∙ size in
-      ap (λ (u : ℕ). record { first = r.first; pages = r.pages; mark = record { kind = r.mark.kind; bucket = r.mark.bucket; slot = r.mark.slot; unused = u } }) unused
+-- the marks of spans are marks
+marks_are : (words : List ℕ) (from to : ℕ) (rs : List Run) → AreRuns words from to rs → AllByRecursion (λ (r : Run). IsMark r.mark) (taken_runs rs)
+marks_are words from to [] a = tt
+marks_are words from to (r ∷ rs) a = elim (cases_Bool (is_of_span r.mark.kind)) [
+  | inl e ↦ rw e (
+    elim a.1.kept [
+      | inl k ↦ let z : true ≡ false = sym e ∙ ap (λ (q : Run). is_of_span q.mark.kind) k.0 in absurd (let y : ⊥ = cc in y)
+      | inr k ↦ k.mark
+    ],
+    marks_are words (from + r.pages) to rs a.2,
+  )
+  | inr e ↦ rw e (marks_are words (from + r.pages) to rs a.2)
+]
 
-  runs_are : (rs : List Run) → AllByRecursion IsBlockRun rs → AllByRecursion (IsFoundIn (taken_in h.kept.words)) rs → rs ≡ map (run_of_span m.state.back.places) (map span_of rs)
-  runs_are [] b f = refl
-  runs_are (r ∷ rs) b f = let here = run_is r b.0 f.0 in let rest = runs_are rs b.1 f.1 in ap (λ (q : Run). q ∷ rs) (sym here) ∙ ap (λ (qs : List Run). run_of_span m.state.back.places (span_of r) ∷ qs) rest
+none_unused : (ps : List Place) (x : Span) (k : Kind) → is_kind k kinds.Back ≡ false → unused_in ps x k ≡ 0
+none_unused ps x kinds.Header e = refl
+none_unused ps x kinds.Free e = refl
+none_unused ps x kinds.Vs e = refl
+none_unused ps x kinds.Lfh e = refl
+none_unused ps x kinds.Back e = absurd (let z : ⊥ = cc in z)
 
-  pub shows : Shows (record { limits = h.limits; region = h.kept.region; descs = h.kept.words }) h.limits m.state
+---- Header words
+
+abbrev shown_by : ℕ → ℕ → Option Place → List model.Run → Option Head
+shown_by g units o gs = option_or (option_map (place_head units) o) (option_map (gap_head units) (find (gap_from g) gs))
+
+abbrev units_by : ℕ → Option Place → List model.Run → ℕ
+units_by g o gs = unwrap_or (option_or (option_map (λ (p : Place). p.granules) o) (option_map (λ (r : model.Run). r.count) (find (gap_to g) gs))) 0
+
+module _ (h : LoneHeap) (m : Configuration) (st : Stands h m) (sound : IsSound h.kept) (chunks : ShowsChunks h.vs) where
+  abbrev blocks : List Run
+  blocks = block_runs h.kept.words
+
+  found : AllByRecursion (IsFoundIn blocks) blocks
+  found = all_found 0 blocks (filter_rising is_block_run 0 (taken_in h.kept.words) (taken_rise h.kept.words sound.whole)) st.blocks
+
+  -- the run of a span, from the span and the places
+  run_is : (r : Run) → IsOneOf r (taken_in h.kept.words) → IsMark r.mark → run_of_span m.state.back.places (span_of r) ≡ r
+  run_is r i mark = ap (λ (u : ℕ). record { first = r.first; pages = r.pages; mark = record { kind = r.mark.kind; bucket = r.mark.bucket; slot = r.mark.slot; unused = u } }) (elim (cases_Bool (is_block_run r)) [
+    | inl e ↦
+        let j = in_filtered is_block_run r (taken_in h.kept.words) e i in
+        let b = all_at IsBlockRun r blocks st.blocks j in
+        let place = place_found h m st sound (4096 * r.first) r (all_at (IsFoundIn blocks) r blocks found j) in
+        let size : 4096 * r.pages - (4096 * r.pages - r.mark.unused) ≡ r.mark.unused = omega (arith, b.unused) in
+        ap (unused_in m.state.back.places (span_of r)) b.kind
+        ∙ ap (λ (o : Option Place). 4096 * r.pages - unwrap_or (option_and_then (λ (p : Place). live_size p.status) o) 0) place
+        ∙ size
+    | inr e ↦ none_unused m.state.back.places (span_of r) r.mark.kind e ∙ sym (mark.of_back e)
+  ])
+
+  runs_are : (rs : List Run) → AllByRecursion (λ r. IsOneOf r (taken_in h.kept.words)) rs → AllByRecursion (λ (r : Run). IsMark r.mark) rs → rs ≡ map (run_of_span m.state.back.places) (map span_of rs)
+  runs_are [] i k = refl
+  runs_are (r ∷ rs) i k = let here = run_is r i.0 k.0 in let rest = runs_are rs i.1 k.1 in ap (λ (q : Run). q ∷ rs) (sym here) ∙ ap (λ (qs : List Run). run_of_span m.state.back.places (span_of r) ∷ qs) rest
+
+  heads_shown : (g : ℕ) → head_at h.vs.chunks g ≡ head_shown (vs_spans m.state.back.area) m.state.vs.places g
+  heads_shown g =
+      let ps = m.state.vs.places in
+      let qs = places_of h.vs in
+      let from : find (place_from g) qs ≡ find (place_from g) ps = ap (find (place_from g)) (sym st.vs_places) ∙ found_sorted (place_from g) ps (one_start g _ (vs_known h m st) (vs_by_start h m st)) in
+      let to : find (place_to g) qs ≡ find (place_to g) ps = ap (find (place_to g)) (sym st.vs_places) ∙ found_sorted (place_to g) ps (one_end g _ (vs_known h m st) (vs_by_start h m st)) in
+      let gaps : gaps_of h.vs.spans qs ≡ gaps_of (vs_spans m.state.back.area) ps = sym (gaps_sorted h.vs.spans ps qs st.vs_places) ∙ ap (λ (xs : List Span). gaps_of xs ps) (sym st.vs_spans_are) in
+      chunks.heads g
+      ∙ ap (λ (o : Option Place). shown_by g (units_by g (find (place_to g) qs) (gaps_of h.vs.spans qs)) o (gaps_of h.vs.spans qs)) from
+      ∙ ap (λ (o : Option Place). shown_by g (units_by g o (gaps_of h.vs.spans qs)) (find (place_from g) ps) (gaps_of h.vs.spans qs)) to
+      ∙ ap (λ (gs : List model.Run). shown_by g (units_by g (find (place_to g) ps) gs) (find (place_from g) ps) gs) gaps
+
+  pub shows : Shows (record { limits = h.limits; region = h.kept.region; descs = h.kept.words; key = key_of h.seed; heads = h.vs.chunks }) (setting_of h) m.state
   shows = record {
     limits = refl;
+    key = refl;
     reserved = ap (λ (a : Area). a.reserved) (sym st.area);
     committed = ap (λ (a : Area). a.committed) (sym st.area);
     whole = sound.whole;
     spans =
-        runs_are (taken_in h.kept.words) st.blocks (all_found 0 (taken_in h.kept.words) (taken_rise h.kept.words sound.whole) st.blocks)
+        runs_are (taken_in h.kept.words) (all_from (λ r. IsOneOf r (taken_in h.kept.words)) (taken_in h.kept.words) (λ r i. i)) (marks_are h.kept.words 0 _ (runs_of h.kept.words) sound.whole)
         ∙ ap (λ (a : Area). map (run_of_span m.state.back.places) a.spans) (sym st.area);
     free = sym (frees_of h.kept sound) ∙ ap (λ (a : Area). free_runs a) (sym st.area);
+    headers = λ g.
+        ap (λ (o : Option Head). option_map_or (λ (x : Head). encoded x h.vs.chunks.key (16 * g)) o 0) (heads_shown g)
+        ∙ ap (λ (key : ℕ). option_map_or (λ (x : Head). encoded x key (16 * g)) (head_shown (vs_spans m.state.back.area) m.state.vs.places g) 0) st.key;
   }
-
--- .. as the heap is seen
-pub closes : (v h : LoneHeap) → v ≡ h → IsSound v.kept → (m : Configuration) → Stands h m → (region : Held) (words : List ℕ) → region ≡ v.kept.region → words ≡ v.kept.words →
-    Shows (record { limits = v.limits; region = region; descs = words }) h.limits m.state
-closes v h seen sound m st region words r w =
-    subst (λ (x : LoneHeap). Shows (record { limits = v.limits; region = region; descs = words }) x.limits m.state) seen
-    (subst (λ (x : Held). Shows (record { limits = v.limits; region = x; descs = words }) v.limits m.state) (sym r)
-    (subst (λ (x : List ℕ). Shows (record { limits = v.limits; region = v.kept.region; descs = x }) v.limits m.state) (sym w)
-    (shows v m (subst (λ (x : LoneHeap). Stands x m) (sym seen) st) sound)))

@@ -1,5 +1,5 @@
 -- Blocks of the back end: what an allocation, a free and a question for the size do with the runs of a back end.
-use Rattle.std.specs.Prelude.{◌≡◌, ℕ, ◌*◌, ◌-◌, ◌==◌, Bool, ◌&&◌, Some, None}
+use Rattle.std.specs.Prelude.{◌≡◌, ℕ, ◌*◌, ◌-◌, ◌==◌, Bool, ◌&&◌, List, filter, Some, None}
 use Rattle.std.specs.List.{find}
 use Rattle.heap_model.specs.declared.Kind.TheVariants as kinds
 use Rattle.heap_model.specs.declared.Reply.{Reply}
@@ -12,9 +12,17 @@ use Rattle.heap_model.specs.Legal.{with_span}
 use Rattle.serial_laws.specs.BackCalls.{block_span}
 use Rattle.backend_fit.specs.Kept.{Kept, area_of, taken_in, with_segment, marked_run, block_mark, insert_run, starts_at, without_span}
 
+-- a run that is a block of the back end
+abbrev pub is_block_run : Run → Bool
+is_block_run r = is_kind r.mark.kind kinds.Back
+
+-- the blocks among the runs of words, by place
+abbrev pub block_runs : List ℕ → List Run
+block_runs words = filter is_block_run (taken_in words)
+
 -- a block of the back end begins at this address
 abbrev pub is_block_at : ℕ → Run → Bool
-is_block_at addr r = is_kind r.mark.kind kinds.Back && 4096 * r.first == addr
+is_block_at addr r = is_block_run r && 4096 * r.first == addr
 
 -- the run of a block of n bytes at this page
 abbrev pub block_run : ℕ → ℕ → Run

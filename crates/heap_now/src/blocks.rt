@@ -5,7 +5,6 @@ ghost use Rattle.heap_model.specs.Geometry.{pages_of};
 ghost use Rattle.heap_model.specs.State.{is_kind};
 ghost use Rattle.heap_model.specs.declared.Kind.TheVariants as kinds;
 ghost use Rattle.backend_fit.specs.Kept.{taken_in};
-ghost use Rattle.backend_fit.specs.Sound.{IsSound};
 ghost use Rattle.heap_now.specs.Blocks.{is_block_at, block_size, Allocates, Frees, Sizes};
 
 use backend_fit::Back;
@@ -15,10 +14,8 @@ use layout_decode::PAGE_BYTES;
 /// Places a block of `n` bytes, 131,073 to 520,192, where its pages fit best.
 pub fn allocate(back: &mut Back, n: u64) -> Reply
     requires size { (131073 ≤ n) × (n ≤ 520192) }
-    ensures done { Allocates back.old back.new n result }
-    ensures sound { IsSound back.old }
+    ensures { Allocates back.old back.new n result }
 {
-    let _descs = back.descs();
     let pages = pages_for(n);
     let mark = Mark {
         kind: Kind::Back,
@@ -34,10 +31,8 @@ pub fn allocate(back: &mut Back, n: u64) -> Reply
 
 /// Gives back the block that begins at an address, if there is one.
 pub fn free_at(back: &mut Back, addr: u64) -> Reply
-    ensures done { Frees back.old back.new addr result }
-    ensures sound { IsSound back.old }
+    ensures { Frees back.old back.new addr result }
 {
-    let _descs = back.descs();
     match block_at(back, addr) {
         Some(run) => {
             back.give(run.first);
@@ -49,10 +44,8 @@ pub fn free_at(back: &mut Back, addr: u64) -> Reply
 
 /// The size of the block that begins at an address, if there is one.
 pub fn size_at(back: &Back, addr: u64) -> Reply
-    ensures done { Sizes back.now addr result }
-    ensures sound { IsSound back.now }
+    ensures { Sizes back.now addr result }
 {
-    let _descs = back.descs();
     match block_at(back, addr) {
         Some(run) => Reply::Number(size_of(&run)),
         None => Reply::NotLive,

@@ -1,1 +1,5 @@
-pub mod Backs
+pub mod Walk
+pub mod Rows
+pub mod OneRun
+pub mod Images
+pub mod Told

@@ -1,17 +1,49 @@
--- The live blocks that the metadata of a heap tells of. So far there are those of the back end: a run of the back end is a block, and the
--- descriptor of its first page tells how many of its last bytes are not used.
-use Rattle.std.specs.Prelude.{ℕ, Bool, ◌&&◌, nat_le, List, filter, sum_by}
+-- The live blocks that the metadata of a heap tells of: descriptors and header words, and nothing else.
+use Rattle.std.specs.Prelude.{◌≡◌, ℕ, zero, suc, ◌+◌, ◌-◌, ◌*◌, Bool, nat_le, nat_lt, List, [], ◌∷◌, ◌++◌, flat_map, sum_by, Option, Some, if◌then◌else◌, cond}
+use Rattle.std.specs.List.{AllByRecursion}
+use Rattle.std.specs.Option.{option_map_or}
+use Rattle.heap_model.specs.declared.Kind.{Kind}
 use Rattle.heap_model.specs.declared.Kind.TheVariants as kinds
+use Rattle.heap_model.specs.declared.Layer.TheVariants as layers
 use Rattle.heap_model.specs.declared.Block.{Block}
 use Rattle.heap_model.specs.declared.Run.{Run}
 use Rattle.heap_model.specs.Geometry.{page_bytes}
-use Rattle.heap_model.specs.State.{is_kind}
 use Rattle.page_ranges.specs.Words.{runs_of}
-use Rattle.page_ranges.specs.Spans.{blocks_in}
+use Rattle.page_ranges.specs.Ranges.{IsWhole}
+use Rattle.page_ranges.specs.Spans.{block_of}
+use Rattle.vs_headers.specs.declared.Head.{Head}
+use Rattle.vs_headers.specs.Headers.{decoded}
+use Rattle.vs_split.specs.Chunks.{Chunks, head_at, word_at}
+use Rattle.vs_split.specs.Laws.{AreOfSpan}
+use Rattle.layout_decode.specs.declared.Image.{Image}
 
--- the blocks that descriptor words tell of, by address
-abbrev pub decode : List ℕ → List Block
-decode words = blocks_in page_bytes (runs_of words)
+-- the head that the header word of a granule tells
+abbrev pub head_told : Image → ℕ → Option Head
+head_told image g = decoded (word_at image.heads g) image.key (16 * g)
+
+-- the block of a place at granule g: it begins behind the header
+abbrev pub place_block : ℕ → Head → Block
+place_block g h = record { addr = 16 * g + 16; size = 16 * (h.units - 1) - h.unused; layer = layers.Vs }
+
+-- the block of a chunk at granule g, where it is a place
+abbrev pub block_if : ℕ → Head → List Block
+block_if g h = if h.busy then place_block g h ∷ [] else []
+
+-- the blocks of at most n chunks from granule g up to another, each found by the units of the one before
+abbrev pub chunk_blocks : (ℕ → Option Head) → ℕ → ℕ → ℕ → List Block
+chunk_blocks told zero g to = []
+chunk_blocks told (suc n) g to =
+    cond (nat_lt g to) (option_map_or (λ h. block_if g h ++ chunk_blocks told n (g + h.units) to) (told g) []) []
+
+-- the blocks of a run: one of the back end is a block, and one of the variable-size layer has those of its chunks, behind its first 48 bytes
+abbrev pub blocks_of : Image → Run → Kind → List Block
+blocks_of image r kinds.Back = block_of page_bytes r ∷ []
+blocks_of image r kinds.Vs = chunk_blocks (head_told image) (256 * r.pages) (256 * r.first + 3) (256 * (r.first + r.pages))
+blocks_of image r _ = []
+
+-- the blocks that an image tells of, by address
+abbrev pub decode : Image → List Block
+decode image = flat_map (λ r. blocks_of image r r.mark.kind) (runs_of image.descs)
 
 abbrev pub is_at_or_after : ℕ → Block → Bool
 is_at_or_after from b = nat_le from b.addr
@@ -20,9 +52,17 @@ is_at_or_after from b = nat_le from b.addr
 abbrev pub total_of : List Block → ℕ
 total_of bs = sum_by (λ b. b.size) bs
 
--- a run of the back end that begins at this page or behind it
-abbrev pub is_back_from : ℕ → Run → Bool
-is_back_from page r = nat_le page r.first && is_kind r.mark.kind kinds.Back
+-- chunks tile the run, if it is one of the variable-size layer
+abbrev pub IsRunOfChunks : Chunks → Run → Kind → Type 0
+IsRunOfChunks v r kinds.Vs = (hs : List Head) × AreOfSpan v r.first r.pages hs
+IsRunOfChunks v r _ = Unit {0}
 
-abbrev pub backs_from : ℕ → List Run → List Run
-backs_from page rs = filter (is_back_from page) rs
+-- each header word tells its chunk
+abbrev pub AreTold : Image → Type 0
+AreTold image = (g : ℕ) (h : Head) → head_at image.heads g ≡ Some h → head_told image g ≡ Some h
+
+-- An image can be read: its runs are whole, chunks tile those of the variable-size layer, and each header word tells its chunk.
+pub record IsReadable (image : Image) : Type 0 where
+  pub whole : IsWhole image.descs
+  pub rows : AllByRecursion (λ r. IsRunOfChunks image.heads r r.mark.kind) (runs_of image.descs)
+  pub told : AreTold image

@@ -1,56 +1,84 @@
 //! The live blocks of a heap, read from its metadata alone, as a debugger reads them from an image.
 //!
-//! So far an image has what the back end keeps: the region with its reserved segments and committed pages, and the
-//! descriptor word of each page. Addresses are offsets in the heap's region, in bytes, and a page has 4,096 bytes.
+//! An image has the region with its reserved segments and committed pages, the descriptor word of each page, and the header
+//! word of each chunk of the variable-size layer. Addresses are offsets in the heap's region, in bytes, a page has 4,096
+//! bytes and a granule 16.
 #![tactic(auto)]
 
+mod places;
 mod runs;
 
 ghost use Rattle.std.specs.Prelude.{◌≡◌, length};
 ghost use Rattle.std.specs.List.{find};
-ghost use Rattle.page_ranges.specs.Ranges.{IsWhole};
-ghost use Rattle.layout_decode.specs.Decode.{decode, is_at_or_after, total_of};
+ghost use Rattle.layout_decode.specs.Decode.{decode, is_at_or_after, total_of, IsReadable};
 
-use crate::runs::{block_of, count_from, next_back};
+use crate::places::tiled;
+use crate::runs::{count_in, next_in};
 use heap_model::{Block, Limits};
 use page_ranges::Descs;
 use page_region::Region;
+use vs_split::Heads;
 
 /// The bytes of a page.
 pub const PAGE_BYTES: u64 = 4096;
 
-/// What a heap leaves behind: its limits, its region, and the descriptors of its pages.
+/// What a heap leaves behind: its limits, its region, the descriptors of its pages, the key that its header words are
+/// encoded by, and those words.
 #[derive(Drop)]
 pub struct Image {
     pub limits: Limits,
     pub region: Region,
     pub descs: Descs,
+    pub key: u64,
+    pub heads: Heads,
 }
 
 /// The live block of the least address at or after `from`, or `None` where there is none.
 ///
-/// It goes on from the page of `from`, run by run, so a walk over all blocks looks at each run once.
+/// It goes on from the run of `from`, and in a run of the variable-size layer from the chunk of `from`, so a walk over all
+/// blocks looks at each chunk three times at most.
 pub fn next_block(image: &Image, from: u64) -> Option<Block>
-    requires { IsWhole image.now.descs }
-    ensures { result ≡ find (is_at_or_after from) (decode image.now.descs) }
+    requires { IsReadable image.now }
+    ensures { result ≡ find (is_at_or_after from) (decode image.now) }
 {
-    let page = from.div_ceil(PAGE_BYTES);
-    if page >= u64::from(image.descs.pages()) {
+    tiled(&image.heads);
+    let end = image.descs.pages();
+    let at = from / PAGE_BYTES;
+    if at >= u64::from(end) {
         return None;
     }
-    match next_back(&image.descs, page as u32) {
-        Some(run) => Some(block_of(&run)),
-        None => None,
+    let mut page = image.descs.run_at(at as u32).first;
+    while page < end {
+        let run = image.descs.next_run(page)?;
+        if let Some(block) = next_in(image, &run, from) {
+            return Some(block);
+        }
+        page = run.first + run.pages;
     }
+    None
 }
 
 /// How many live blocks there are, and the sum of the sizes that they were asked for.
 pub fn count_blocks(image: &Image) -> (u64, u64)
-    requires { IsWhole image.now.descs }
-    ensures blocks { result.0 ≡ length (decode image.now.descs) }
-    ensures bytes { result.1 ≡ total_of (decode image.now.descs) }
+    requires { IsReadable image.now }
+    ensures blocks { result.0 ≡ length (decode image.now) }
+    ensures bytes { result.1 ≡ total_of (decode image.now) }
 {
-    count_from(&image.descs)
+    tiled(&image.heads);
+    let end = image.descs.pages();
+    let mut blocks = 0;
+    let mut bytes = 0;
+    let mut page = 0;
+    while page < end {
+        let Some(run) = image.descs.next_run(page) else {
+            return (blocks, bytes);
+        };
+        let counted = count_in(image, &run);
+        blocks += counted.0;
+        bytes += counted.1;
+        page = run.first + run.pages;
+    }
+    (blocks, bytes)
 }
 
 #[cfg(test)]

@@ -1,13 +1,20 @@
-// An image written by hand, and the block that it tells of.
-ghost use Rattle.std.specs.Prelude.{IfOk};
-ghost use Rattle.page_ranges.specs.Ranges.{IsWhole};
+// Images written by hand, and the blocks that they tell of.
+ghost use Rattle.std.specs.Prelude.{◌≡◌, ◌<◌, IfOk, IsTrue, List};
+ghost use Rattle.vs_headers.specs.declared.Head.{Head};
+ghost use Rattle.vs_split.specs.Laws.{IsRow};
+ghost use Rattle.layout_decode.specs.Decode.{AreTold, IsReadable};
 
 use crate::{Image, count_blocks, next_block};
 use heap_model::{Block, Kind, Layer, Limits, Mark, OutOfMemory};
 use page_ranges::Descs;
 use page_region::Region;
 use std::alloc::Global;
+use std::process::Abort;
 use std::test::Fail;
+use vs_split::Heads;
+
+/// The key of the heap whose seed is 42.
+const KEY: u64 = 0x9e37_79b9_7f4a_7c3f;
 
 const ONE_SEGMENT: Limits = Limits {
     segments: 1,
@@ -31,11 +38,20 @@ const BLOCK: Mark = Mark {
     unused: 4095,
 };
 
+/// The mark of a span of the variable-size layer.
+const CHUNKS: Mark = Mark {
+    kind: Kind::Vs,
+    bucket: 0,
+    slot: 0,
+    unused: 0,
+};
+
 /// One segment, with one block on the pages behind its header.
 fn one_block(alloc: Global) -> Result<Image, OutOfMemory>
-    ensures whole { IfOk result (λ image. IsWhole image.descs) }
+    ensures readable { IfOk result (λ image. IsReadable image) }
 {
     let region = Region::new(alloc, &ONE_SEGMENT)?;
+    let heads = Heads::new(alloc, &ONE_SEGMENT, KEY)?;
     let mut descs = Descs::new(alloc, &ONE_SEGMENT)?;
     descs.open_segment(0);
     descs.mark(2, 33, BLOCK);
@@ -44,7 +60,71 @@ fn one_block(alloc: Global) -> Result<Image, OutOfMemory>
         limits: ONE_SEGMENT,
         region,
         descs,
+        key: KEY,
+        heads,
     })
+}
+
+/// One segment, with chunks on 16 pages behind its header, and a block on the 33 pages behind those. The chunks are a place
+/// of 2 granules, one of 4, a gap of 3, a place of 5, and a gap.
+fn four_blocks<R: Abort>(rt: &R, alloc: Global) -> Result<Image, OutOfMemory>
+    ensures readable { IfOk result (λ image. IsReadable image) }
+{
+    let region = Region::new(alloc, &ONE_SEGMENT)?;
+    let mut heads = Heads::new(alloc, &ONE_SEGMENT, KEY)?;
+    heads.open_span(2, 16);
+    let mut descs = Descs::new(alloc, &ONE_SEGMENT)?;
+    descs.open_segment(0);
+    descs.mark(2, 16, CHUNKS);
+    descs.mark(18, 33, BLOCK);
+    descs.mark(51, 205, FREE);
+    let mut image = Image {
+        limits: ONE_SEGMENT,
+        region,
+        descs,
+        key: KEY,
+        heads,
+    };
+    assert!(rt; could_cut(&mut image, 8240, 2, 0, true));
+    assert!(rt; could_cut(&mut image, 8272, 4, 7, true));
+    assert!(rt; could_cut(&mut image, 8336, 3, 0, false));
+    assert!(rt; could_cut(&mut image, 8384, 5, 0, true));
+    assert!(rt; is_row(&image.heads, 0, 515, 4608));
+    Ok(image)
+}
+
+/// Cuts the chunk at an address behind its first `units`, makes the front of it a place or a gap, and answers whether it
+/// could.
+fn could_cut(image: &mut Image, addr: u64, units: u16, unused: u8, busy: bool) -> bool
+    requires told { AreTold image.old }
+    requires key { image.old.heads.key ≡ image.old.key }
+    ensures told { AreTold image.new }
+    ensures key { image.new.heads.key ≡ image.new.key }
+    ensures descs { image.new.descs ≡ image.old.descs }
+{
+    let Some(head) = image.heads.chunk_at(addr) else {
+        return false;
+    };
+    if units < 2 || head.units < units || head.units - units < 2 {
+        return false;
+    }
+    image.heads.split(addr, units);
+    image.heads.set(addr, unused, busy);
+    true
+}
+
+/// Whether chunks lie one behind the other from one granule up to another, behind a chunk of `prev` granules.
+fn is_row(heads: &Heads, prev: u16, from: u32, to: u32) -> bool
+    requires { to < 65536 }
+    ensures { IsTrue result → (hs : List Head) × IsRow heads.now prev from to hs }
+{
+    if from >= to {
+        return from == to;
+    }
+    let Some(head) = heads.chunk_at(16 * u64::from(from)) else {
+        return false;
+    };
+    head.prev == prev && is_row(heads, head.units, from + u32::from(head.units), to)
 }
 
 #[test]
@@ -59,5 +139,36 @@ fn reads_one_block(rt: HostRuntime) -> Result<(), Fail> {
     assert!(rt; next_block(&image, 8192) == Some(block));
     assert!(rt; next_block(&image, 8193) == None);
     assert!(rt; count_blocks(&image) == (1, 131_073));
+    Ok(())
+}
+
+fn block(addr: u64, size: u64, layer: Layer) -> Option<Block> {
+    Some(Block { addr, size, layer })
+}
+
+/// Each block from its own address on, and from the address behind it.
+#[test]
+fn reads_four_blocks(rt: HostRuntime) -> Result<(), Fail> {
+    let image = four_blocks(&rt, rt.alloc())?;
+    // The header word of a place of 2 granules at this address and key.
+    assert_eq!(rt; image.heads.word(515), 0x9e37_78b9_7f4a_5c0d);
+    let first = block(8256, 16, Layer::Vs);
+    let second = block(8288, 41, Layer::Vs);
+    let third = block(8400, 64, Layer::Vs);
+    let fourth = block(73_728, 131_073, Layer::Back);
+    assert_eq!(rt; next_block(&image, 0), first);
+    assert_eq!(rt; next_block(&image, 8256), first);
+    assert_eq!(rt; next_block(&image, 8257), second);
+    assert_eq!(rt; next_block(&image, 8288), second);
+    assert_eq!(rt; next_block(&image, 8289), third);
+    assert_eq!(rt; next_block(&image, 8352), third);
+    assert_eq!(rt; next_block(&image, 8400), third);
+    assert_eq!(rt; next_block(&image, 8401), fourth);
+    assert_eq!(rt; next_block(&image, 73_727), fourth);
+    assert_eq!(rt; next_block(&image, 73_728), fourth);
+    assert_eq!(rt; next_block(&image, 73_729), None);
+    assert_eq!(rt; next_block(&image, 1_048_576), None);
+    assert_eq!(rt; next_block(&image, u64::MAX), None);
+    assert_eq!(rt; count_blocks(&image), (4, 131_194));
     Ok(())
 }

@@ -1,17 +1,22 @@
 -- On the blocks at or after an address, among blocks in the order of their addresses.
 use Rattle.std.proofs.Common.{◌≡◌, ℕ, ◌+◌, ◌*◌, ◌<◌, ◌≤◌, List, [], ◌∷◌, ◌++◌, length, Some, None, refl, sym, ap, subst, arith, leb, inl, inr}
 use Rattle.std.specs.Prelude.{filter, flat_map}
-use Rattle.std.specs.List.{find}
+use Rattle.std.specs.List.{find, AllByRecursion}
 use Rattle.std.proofs.lemmas.Bool.{cases_Bool, le-leb, lt-leb, leb-true}
 use Rattle.heap_model.specs.declared.Block.{Block}
+use Rattle.heap_model.specs.declared.Kind.{Kind}
 use Rattle.heap_model.specs.declared.Kind.TheVariants as kinds
 use Rattle.heap_model.specs.declared.Run.{Run}
-use Rattle.heap_model.specs.Geometry.{page_bytes}
-use Rattle.heap_model.specs.State.{is_kind}
 use Rattle.page_ranges.specs.Words.{runs_of}
-use Rattle.page_ranges.specs.Ranges.{AreRuns, IsWhole}
-use Rattle.page_ranges.specs.Spans.{blocks_in}
-use Rattle.layout_decode.specs.Decode.{decode, is_at_or_after}
+use Rattle.page_ranges.specs.Ranges.{AreRuns}
+use Rattle.page_ranges.proofs.Runs.{runs_le}
+use Rattle.vs_headers.specs.declared.Head.{Head}
+use Rattle.vs_split.specs.Chunks.{Chunks}
+use Rattle.vs_split.specs.Tiles.{IsTiled}
+use Rattle.vs_split.specs.Laws.{IsRow}
+use Rattle.layout_decode.specs.declared.Image.{Image}
+use Rattle.layout_decode.specs.Decode.{decode, head_told, blocks_of, is_at_or_after, IsRunOfChunks, IsReadable}
+use Rattle.layout_decode.proofs.Rows.{row_blocks, row_le, chunks_are}
 use Rattle.report_text.specs.Report.{block_line}
 use Rattle.report_text.proofs.ReplyLemmas.{put_on, put_all}
 
@@ -30,21 +35,44 @@ lower : (low from high : ℕ) (bs : List Block) → low ≤ from → AreOrdered 
 lower low from high [] l a = tt
 lower low from high (b ∷ bs) l a = (omega (arith, a.0), a.1, a.2)
 
-runs_to : (words : List ℕ) (from to : ℕ) (rs : List Run) → AreRuns words from to rs → from ≤ to
-runs_to words from to [] a = rw a (omega arith)
-runs_to words from to (r ∷ rs) a = let k = runs_to words (from + r.pages) to rs a.2 in omega arith
+append : (low mid high : ℕ) (xs ys : List Block) → low ≤ mid → mid ≤ high → AreOrdered low mid xs → AreOrdered mid high ys → AreOrdered low high (xs ++ ys)
+append low mid high [] ys l m a b = lower low mid high ys l b
+append low mid high (x ∷ xs) ys l m a b = (a.0, omega (arith, a.1), append (x.addr + 1) mid high xs ys (omega (arith, a.1)) m a.2 b)
 
-blocks_ordered : (words : List ℕ) (from to : ℕ) (rs : List Run) → AreRuns words from to rs → AreOrdered (4096 * from) (4096 * to) (blocks_in page_bytes rs)
-blocks_ordered words from to [] a = tt
-blocks_ordered words from to (r ∷ rs) a =
-    let rest = blocks_ordered words (from + r.pages) to rs a.2 in
-    let to_end = runs_to words (from + r.pages) to rs a.2 in
-    let some = a.1.some in
-    let first = a.0 in
-    elim (cases_Bool (is_kind r.mark.kind kinds.Back)) [
-      | inl e ↦ rw e (omega arith, omega arith, lower (4096 * r.first + 1) (4096 * (from + r.pages)) (4096 * to) (blocks_in page_bytes rs) (omega arith) rest)
-      | inr e ↦ rw e (lower (4096 * from) (4096 * (from + r.pages)) (4096 * to) (blocks_in page_bytes rs) (omega arith) rest)
+row_ordered : (v : Chunks) (t : IsTiled v) (prev g to : ℕ) (hs : List Head) → IsRow v prev g to hs → AreOrdered (16 * g) (16 * to) (row_blocks g hs)
+row_ordered v t prev g to [] row = tt
+row_ordered v t prev g to (h ∷ hs) row =
+    let rest = row_ordered v t h.units (g + h.units) to hs row.2 in
+    let some = (t.tiles g h row.0).some in
+    let le = row_le v h.units (g + h.units) to hs row.2 in
+    elim (cases_Bool h.busy) [
+      | inl b ↦ rw b (omega arith, omega arith, lower (16 * g + 16 + 1) (16 * (g + h.units)) (16 * to) (row_blocks (g + h.units) hs) (omega arith) rest)
+      | inr b ↦ rw b (lower (16 * g) (16 * (g + h.units)) (16 * to) (row_blocks (g + h.units) hs) (omega arith) rest)
     ]
+
+module _ (image : Image) (readable : IsReadable image) (t : IsTiled image.heads) where
+  run_ordered : (r : Run) (k : Kind) → IsRunOfChunks image.heads r k → 0 < r.pages → AreOrdered (4096 * r.first) (4096 * (r.first + r.pages)) (blocks_of image r k)
+  run_ordered r kinds.Header q some = tt
+  run_ordered r kinds.Free q some = tt
+  run_ordered r kinds.Lfh q some = tt
+  run_ordered r kinds.Back q some = (omega arith, omega arith, tt)
+  run_ordered r kinds.Vs q some =
+      let front : ℕ = 256 * r.first + 3 in
+      let end : ℕ = 256 * (r.first + r.pages) in
+      let same = chunks_are image.heads t (head_told image) readable.told (256 * r.pages) 0 front end q.0 q.1 (omega arith) in
+      let high : 16 * end ≡ 4096 * (r.first + r.pages) = omega arith in
+      let row = lower (4096 * r.first) (16 * front) (16 * end) (row_blocks front q.0) (omega arith) (row_ordered image.heads t 0 front end q.0 q.1) in
+      subst (λ n. AreOrdered (4096 * r.first) n (blocks_of image r kinds.Vs)) high (subst (λ (bs : List Block). AreOrdered (4096 * r.first) (16 * end) bs) (sym same) row)
+
+  runs_ordered : (words : List ℕ) (from to : ℕ) (rs : List Run) → AreRuns words from to rs → AllByRecursion (λ r. IsRunOfChunks image.heads r r.mark.kind) rs → AreOrdered (4096 * from) (4096 * to) (flat_map (λ r. blocks_of image r r.mark.kind) rs)
+  runs_ordered words from to [] a all = tt
+  runs_ordered words from to (r ∷ rs) a all =
+      let first = subst (λ n. AreOrdered (4096 * n) (4096 * (n + r.pages)) (blocks_of image r r.mark.kind)) a.0 (run_ordered r r.mark.kind all.0 a.1.some) in
+      let le = runs_le words (from + r.pages) to rs a.2 in
+      append (4096 * from) (4096 * (from + r.pages)) (4096 * to) (blocks_of image r r.mark.kind) (flat_map (λ (x : Run). blocks_of image x x.mark.kind) rs) (omega arith) (omega arith) first (runs_ordered words (from + r.pages) to rs a.2 all.1)
+
+  blocks_ordered : AreOrdered 0 (4096 * length image.descs) (decode image)
+  blocks_ordered = runs_ordered image.descs 0 (length image.descs) (runs_of image.descs) readable.whole readable.rows
 
 -- where all lie at or after two addresses, either gives the same
 all_behind : (low high from other : ℕ) (bs : List Block) → AreOrdered low high bs → from ≤ low → other ≤ low → blocks_from from bs ≡ blocks_from other bs
@@ -77,8 +105,8 @@ step_from low high from (x ∷ xs) b a f = elim (cases_Bool (leb from x.addr)) [
       (record { above = rest.0.above; below = rest.0.below; picked = rw (e, under) rest.0.picked }, omega (arith, a.0, rest.1))
 ]
 
-pub step : (words : List ℕ) (from : ℕ) (b : Block) → IsWhole words → Some b ≡ find (is_at_or_after from) (decode words) → Step (4096 * length words) from (decode words) b
-step words from b w f = (step_from 0 (4096 * length words) from (decode words) b (blocks_ordered words 0 (length words) (runs_of words) w) (sym f)).0
+pub step : (image : Image) → IsReadable image → IsTiled image.heads → (from : ℕ) (b : Block) → Some b ≡ find (is_at_or_after from) (decode image) → Step (4096 * length image.descs) from (decode image) b
+step image readable t from b f = (step_from 0 (4096 * length image.descs) from (decode image) b (blocks_ordered image readable t) (sym f)).0
 
 none_from : (from : ℕ) (bs : List Block) → find (is_at_or_after from) bs ≡ None → blocks_from from bs ≡ []
 none_from from [] f = refl

@@ -3,9 +3,8 @@ use Rattle.std.proofs.Common.{◌≡◌, ℕ, ◌+◌, ◌<◌, ◌≤◌, Bool,
 use Rattle.std.proofs.lemmas.Bool.{lt-ltb, le-ltb}
 use Rattle.heap_model.specs.declared.Kind.{Kind}
 use Rattle.heap_model.specs.declared.Kind.TheVariants as kinds
-use Rattle.heap_model.specs.declared.Limits.{Limits}
 use Rattle.heap_model.specs.declared.Run.{Run}
-use Rattle.heap_model.specs.State.{State, Area, Span, Place}
+use Rattle.heap_model.specs.State.{State, Setting, Area, Span, Place}
 use Rattle.heap_model.specs.Backend.{free_runs}
 use Rattle.heap_model.specs.Layout.{PageRange, span_range, free_range, insert_range, insert_ranges, page_ranges_of}
 use Rattle.page_ranges.specs.Words.{runs_of}
@@ -119,13 +118,13 @@ span_ranges : (places : List Place) (xs : List Span) → map span_range xs ≡ m
 span_ranges places [] = refl
 span_ranges places (x ∷ xs) = ap (λ (ys : List PageRange). span_range x ∷ ys) (span_ranges places xs)
 
-pub ranges_are : (image : Image) (l : Limits) (st : State) → Shows image l st → ranges_of image ≡ page_ranges_of st.back.area
-ranges_are image l st s =
+pub ranges_are : (image : Image) (s : Setting) (st : State) → Shows image s st → ranges_of image ≡ page_ranges_of st.back.area
+ranges_are image s st shown =
     let a = st.back.area in
     let rs = runs_of image.descs in
-    let spans : taken_ranges rs ≡ map span_range a.spans = ap (map taken_range) s.spans ∙ sym (span_ranges st.back.places a.spans) in
-    let frees : free_ranges a rs ≡ map (free_range a) (free_runs a) = ap (map (free_range a)) s.free in
-    ap (λ (committed : ℕ → Bool). map (range_of committed) (shown_runs rs)) s.committed
-    ∙ put_together a image.descs 0 (length image.descs) rs s.whole
+    let spans : taken_ranges rs ≡ map span_range a.spans = ap (map taken_range) shown.spans ∙ sym (span_ranges st.back.places a.spans) in
+    let frees : free_ranges a rs ≡ map (free_range a) (free_runs a) = ap (map (free_range a)) shown.free in
+    ap (λ (committed : ℕ → Bool). map (range_of committed) (shown_runs rs)) shown.committed
+    ∙ put_together a image.descs 0 (length image.descs) rs shown.whole
     ∙ ap (λ (xs : List PageRange). insert_ranges xs (taken_ranges rs)) frees
     ∙ ap (insert_ranges (map (free_range a) (free_runs a))) spans

@@ -1,7 +1,6 @@
 // The live blocks, and their sum.
 ghost use Rattle.std.specs.Prelude.{◌≡◌, ◌++◌, OnOk, string_bytes, flat_map};
-ghost use Rattle.page_ranges.specs.Ranges.{IsWhole};
-ghost use Rattle.layout_decode.specs.Decode.{decode};
+ghost use Rattle.layout_decode.specs.Decode.{decode, IsReadable};
 ghost use Rattle.report_text.specs.Report.{block_line, last_line};
 
 use crate::words::{push_word, word_of_layer};
@@ -11,20 +10,21 @@ use std::alloc::AllocError;
 
 /// A line for each live block, by address, and the last line.
 pub fn push_blocks(text: &mut String, image: &Image) -> Result<(), AllocError>
-    requires { IsWhole image.now.descs }
+    requires { IsReadable image.now }
     ensures { OnOk result (string_bytes text.new
-        ≡ string_bytes text.old ++ (flat_map block_line (decode image.now.descs) ++ last_line (decode image.now.descs))) }
+        ≡ string_bytes text.old ++ (flat_map block_line (decode image.now) ++ last_line (decode image.now))) }
 {
     push_each(text, image)?;
     push_sum(text, image)
 }
 
 fn push_each(text: &mut String, image: &Image) -> Result<(), AllocError>
-    requires { IsWhole image.now.descs }
-    ensures { OnOk result (string_bytes text.new ≡ string_bytes text.old ++ flat_map block_line (decode image.now.descs)) }
+    requires { IsReadable image.now }
+    ensures { OnOk result (string_bytes text.new ≡ string_bytes text.old ++ flat_map block_line (decode image.now)) }
 {
-    // addresses end with the pages
+    // addresses end with the pages, and chunks lie one behind the other
     let _pages = image.descs.pages();
+    let _chunk = image.heads.chunk_at(0);
     let mut from = 0;
     while let Some(block) = next_block(image, from) {
         push_block(text, &block)?;
@@ -45,8 +45,8 @@ fn push_block(text: &mut String, block: &Block) -> Result<(), AllocError>
 
 /// The number of blocks, and the sum of the sizes that they were asked for.
 fn push_sum(text: &mut String, image: &Image) -> Result<(), AllocError>
-    requires { IsWhole image.now.descs }
-    ensures { OnOk result (string_bytes text.new ≡ string_bytes text.old ++ last_line (decode image.now.descs)) }
+    requires { IsReadable image.now }
+    ensures { OnOk result (string_bytes text.new ≡ string_bytes text.old ++ last_line (decode image.now)) }
 {
     let (blocks, bytes) = count_blocks(image);
     push_word(text, "blocks ", blocks)?;

@@ -18,6 +18,7 @@ use Rattle.heap_model.specs.Stay.{is_some_of}
 use Rattle.heap_model.specs.CallState.{Configuration, CallState, SpanHistory}
 use Rattle.heap_model.specs.Legal.{may_follow, after, lies_in, has_place, are_used, is_empty, with_status, with_span, on, layer_of, is_run_of}
 use Rattle.heap_model.specs.Alone.{at_rest, by_zero, may_all_come}
+use Rattle.heap_model.proofs.ListLemmas.{filter-insert_span}
 use Rattle.serial_laws.specs.BackCalls.{plain, block_span, block_place, one_more_reserved, Ends, AllocationEnds, ReservingEnds, RefusalEnds}
 use Rattle.serial_laws.proofs.Places.{all_inserted}
 
@@ -65,7 +66,7 @@ gives n p =
     let d = eq-eqb (256 * pages_of n) (256 * pages_of n) refl in
     rw (a, p, d) refl
 
-reserves : (s : Setting) (area : Area) → area.reserved < s.limits.segments → (eqb area.reserved area.reserved && ltb area.reserved s.limits.segments) ≡ true
+pub reserves : (s : Setting) (area : Area) → area.reserved < s.limits.segments → (eqb area.reserved area.reserved && ltb area.reserved s.limits.segments) ≡ true
 reserves s area l =
     let a = eq-eqb area.reserved area.reserved refl in
     let b = lt-ltb area.reserved s.limits.segments l in
@@ -74,6 +75,15 @@ reserves s area l =
 pub empty_parts : (xs ys : List Place) → xs ++ ys ≡ [] → (xs ≡ []) × (ys ≡ [])
 empty_parts [] ys h = (refl, h)
 empty_parts (x ∷ xs) ys h = absurd (let z : ⊥ = cc in z)
+
+-- where nothing is in hand, nothing is in any layer
+pub four_parts : (lfh vs back large : List Place) → in_hand 0 lfh ++ in_hand 0 vs ++ in_hand 0 back ++ in_hand 0 large ≡ [] →
+    (in_hand 0 lfh ≡ []) × (in_hand 0 vs ≡ []) × (in_hand 0 back ≡ []) × (in_hand 0 large ≡ [])
+four_parts lfh vs back large none =
+    let p = empty_parts (in_hand 0 lfh ++ in_hand 0 vs ++ in_hand 0 back) (in_hand 0 large) none in
+    let q = empty_parts (in_hand 0 lfh ++ in_hand 0 vs) (in_hand 0 back) p.0 in
+    let r = empty_parts (in_hand 0 lfh) (in_hand 0 vs) q.0 in
+    (r.0, r.1, q.1, p.1)
 
 ---- The place that is made, and given
 
@@ -88,15 +98,9 @@ module _ (lfh vs back large : List Place) (first n : ℕ) (none : in_hand 0 lfh 
   abbrev hand : Option Place
   hand = find (has_address (4096 * first)) (in_hand 0 lfh ++ in_hand 0 vs ++ in_hand 0 (made ∷ back) ++ in_hand 0 large)
 
-  four : (in_hand 0 lfh ≡ []) × (in_hand 0 vs ≡ []) × (in_hand 0 back ≡ []) × (in_hand 0 large ≡ [])
-  four =
-      let p = empty_parts (in_hand 0 lfh ++ in_hand 0 vs ++ in_hand 0 back) (in_hand 0 large) none in
-      let q = empty_parts (in_hand 0 lfh ++ in_hand 0 vs) (in_hand 0 back) p.0 in
-      let r = empty_parts (in_hand 0 lfh) (in_hand 0 vs) q.0 in
-      (r.0, r.1, q.1, p.1)
-
   found : hand ≡ Some made
   found =
+      let four = four_parts lfh vs back large none in
       let a = four.0 in let b = four.1 in let d = four.2 in let e = four.3 in
       let f = eq-eqb (4096 * first) (4096 * first) refl in
       rw (a, b, d, e, f) refl
@@ -127,6 +131,13 @@ module _ (lfh vs back large : List Place) (first n : ℕ) (none : in_hand 0 lfh 
       (or_left (lies_in 4096 x given) (list_any (lies_in 4096 x) back) (and_from (leb (4096 * first) (4096 * first)) (leb (4096 * first + 16 * (256 * pages_of n)) (4096 * (first + pages_of n))) (le-leb _ _ (omega arith)) (le-leb _ _ (omega arith))))
       (λ y w. or_right (lies_in 4096 y given) (list_any (lies_in 4096 y) back) w) h
 
+  -- the spans of the variable-size layer are as before
+  used_again : (xs : List Span) → are_used 4096 kinds.Vs vs xs ≡ true →
+      are_used 4096 kinds.Vs (on layers.Vs give vs (layer_of hand)) (insert_span (block_span first n) xs) ≡ true
+  used_again xs h =
+      ap (λ (ps : List Place). are_used 4096 kinds.Vs ps (insert_span (block_span first n) xs)) (others layers.Vs vs refl)
+      ∙ ap (λ (ys : List Span). list_all (has_place 4096 vs) ys) (filter-insert_span (is_of_kind kinds.Vs) (block_span first n) xs refl) ∙ h
+
 ---- The calls
 
 abbrev placing_acts : ℕ → ℕ → List Act
@@ -134,7 +145,7 @@ placing_acts n first =
     acts.Span first (pages_of n) kinds.Back 0 0 ∷ acts.Place (4096 * first) (256 * pages_of n) layers.Back
     ∷ acts.Give (4096 * first) n ∷ acts.GiveLock whats.Back ∷ acts.Leave ∷ []
 
-module _ (s : Setting) (back : BackPart) (vs : VsPart) (lfh large : List Place) (words : ℕ → ℕ) (states : ℕ → CallState) (disturbed : ℕ → Bool) (history : SpanHistory) (n : ℕ) (room : 0 < s.limits.callers) (empty : hands (at_rest back vs lfh large words states disturbed history).state 0 ≡ []) (whole : are_used 4096 kinds.Back back.places back.area.spans ≡ true) (paged : is_paged (route_of n) ≡ true) where
+module _ (s : Setting) (back : BackPart) (vs : VsPart) (lfh large : List Place) (words : ℕ → ℕ) (states : ℕ → CallState) (disturbed : ℕ → Bool) (history : SpanHistory) (n : ℕ) (room : 0 < s.limits.callers) (empty : hands (at_rest back vs lfh large words states disturbed history).state 0 ≡ []) (whole : are_used 4096 kinds.Back back.places back.area.spans ≡ true) (used : are_used 4096 kinds.Vs vs.places back.area.spans ≡ true) (paged : is_paged (route_of n) ≡ true) where
   abbrev start : Configuration
   start = at_rest back vs lfh large words states disturbed history
 
@@ -160,6 +171,7 @@ module _ (s : Setting) (back : BackPart) (vs : VsPart) (lfh large : List Place) 
       let above : 131072 < n = paged_above n paged in
       let left = leaves lfh vs.places back.places large first n empty in
       let again = whole_again lfh vs.places back.places large first n empty back.area.spans whole in
+      let kept = used_again lfh vs.places back.places large first n empty back.area.spans used in
       record {
         rest = acts.Enter ∷ r2;
         completes = record {
@@ -175,7 +187,7 @@ module _ (s : Setting) (back : BackPart) (vs : VsPart) (lfh large : List Place) 
           answered = record { own = refl; shape = (refl, refl) };
           idle = record { outside = refl; holds = refl; hands = left; demand = refl };
         };
-        at_rest = record { rest = refl; hands = left; whole = again };
+        at_rest = record { rest = refl; hands = left; whole = again; used = kept };
         only = record {
           area_is = refl;
           places_are = back_after lfh vs.places back.places large first n empty;
@@ -213,6 +225,7 @@ module _ (s : Setting) (back : BackPart) (vs : VsPart) (lfh large : List Place) 
       let above : 131072 < n = paged_above n paged in
       let left = leaves lfh vs.places back.places large first n empty in
       let again = whole_again lfh vs.places back.places large first n empty back.area.spans whole in
+      let kept = used_again lfh vs.places back.places large first n empty back.area.spans used in
       record {
         rest = acts.Enter ∷ r2;
         completes = record {
@@ -229,7 +242,7 @@ module _ (s : Setting) (back : BackPart) (vs : VsPart) (lfh large : List Place) 
           answered = record { own = refl; shape = (refl, refl) };
           idle = record { outside = refl; holds = refl; hands = left; demand = refl };
         };
-        at_rest = record { rest = refl; hands = left; whole = again };
+        at_rest = record { rest = refl; hands = left; whole = again; used = kept };
         only = record {
           area_is = refl;
           places_are = back_after lfh vs.places back.places large first n empty;
@@ -265,7 +278,7 @@ module _ (s : Setting) (back : BackPart) (vs : VsPart) (lfh large : List Place) 
           answered = record { own = refl; shape = refl };
           idle = record { outside = refl; holds = refl; hands = empty; demand = refl };
         };
-        at_rest = record { rest = refl; hands = empty; whole = whole };
+        at_rest = record { rest = refl; hands = empty; whole = whole; used = used };
         only = record { area_is = refl; places_are = refl; vs = refl; lfh = refl; large = refl; words = refl };
       }
 
@@ -274,14 +287,14 @@ module _ (s : Setting) (back : BackPart) (vs : VsPart) (lfh large : List Place) 
 pub allocation : AllocationEnds
 allocation s m n first room r paged fits low =
     let E : Configuration → Type 0 = λ m. Ends s m (calls.Alloc n plain) (replies.Address (4096 * first)) (with_span m.state.back.area (block_span first n)) (block_place first n ∷ m.state.back.places) in
-    subst E (sym r.rest) (allocates s m.state.back m.state.vs m.state.lfh m.state.large m.state.words m.now.calls m.now.disturbed m.now.span_history n room r.hands r.whole paged first fits low)
+    subst E (sym r.rest) (allocates s m.state.back m.state.vs m.state.lfh m.state.large m.state.words m.now.calls m.now.disturbed m.now.span_history n room r.hands r.whole r.used paged first fits low)
 
 pub reserving : ReservingEnds
 reserving s m n first room r paged fits low lower only =
     let E : Configuration → Type 0 = λ m. Ends s m (calls.Alloc n plain) (replies.Address (4096 * first)) (with_span (one_more_reserved m.state.back.area) (block_span first n)) (block_place first n ∷ m.state.back.places) in
-    subst E (sym r.rest) (allocates_next s m.state.back m.state.vs m.state.lfh m.state.large m.state.words m.now.calls m.now.disturbed m.now.span_history n room r.hands r.whole paged first fits low lower only)
+    subst E (sym r.rest) (allocates_next s m.state.back m.state.vs m.state.lfh m.state.large m.state.words m.now.calls m.now.disturbed m.now.span_history n room r.hands r.whole r.used paged first fits low lower only)
 
 pub refusal : RefusalEnds
 refusal s m n room r paged none =
     let E : Configuration → Type 0 = λ m. Ends s m (calls.Alloc n plain) replies.NoFit m.state.back.area m.state.back.places in
-    subst E (sym r.rest) (refuses s m.state.back m.state.vs m.state.lfh m.state.large m.state.words m.now.calls m.now.disturbed m.now.span_history n room r.hands r.whole paged none)
+    subst E (sym r.rest) (refuses s m.state.back m.state.vs m.state.lfh m.state.large m.state.words m.now.calls m.now.disturbed m.now.span_history n room r.hands r.whole r.used paged none)

@@ -1,94 +1,32 @@
 -- A free and a question for the size, from a configuration at rest.
-use Rattle.std.proofs.Common.{◌≡◌, ℕ, ◌/◌, ◌<◌, Bool, true, false, ◌&&◌, not, List, [], ◌∷◌, ◌++◌, Option, Some, refl, sym, ap, subst, ◌∙◌, inl, inr}
-use Rattle.std.specs.List.{find}
-use Rattle.std.proofs.lemmas.Bool.{cases_Bool, eq-eqb}
+use Rattle.std.proofs.Common.{◌≡◌, ℕ, ◌/◌, ◌<◌, Bool, true, false, ◌&&◌, not, List, [], ◌∷◌, ◌++◌, Option, Some, refl, sym, ap, subst, ◌∙◌}
+use Rattle.std.specs.List.{find, list_all}
+use Rattle.std.proofs.lemmas.Bool.{eq-eqb}
 use Rattle.heap_model.specs.declared.Call.TheVariants as calls
 use Rattle.heap_model.specs.declared.Act.TheVariants as acts
 use Rattle.heap_model.specs.declared.Reply.TheVariants as replies
 use Rattle.heap_model.specs.declared.Kind.TheVariants as kinds
 use Rattle.heap_model.specs.declared.Layer.TheVariants as layers
 use Rattle.heap_model.specs.declared.What.TheVariants as whats
-use Rattle.heap_model.specs.State.{Setting, BackPart, VsPart, Span, Place, InHand, has_address, in_hand, hands, is_hand_at, is_live_at, change_found, remove_found, is_in_hand_of}
+use Rattle.heap_model.specs.State.{Setting, BackPart, VsPart, Span, Place, has_address, in_hand, hands, is_live_at}
 use Rattle.heap_model.specs.CallState.{Configuration, CallState, SpanHistory}
-use Rattle.heap_model.specs.Search.{span_at}
-use Rattle.heap_model.specs.Legal.{after, has_place, are_used, is_empty, with_status, has_live}
+use Rattle.heap_model.specs.Ranges.{is_of_kind}
+use Rattle.heap_model.specs.Search.{span_at, begins_at}
+use Rattle.heap_model.specs.Legal.{after, has_place, are_used, is_empty, has_live}
 use Rattle.heap_model.specs.Alone.{at_rest, by_zero}
+use Rattle.heap_model.proofs.ListLemmas.{filter-remove_found}
 use Rattle.serial_laws.specs.BackCalls.{Ends, live_place, area_without, places_without, FreeEnds, SizeEnds, IsNotLive, NotLiveEnds}
-use Rattle.serial_laws.proofs.Allocate.{come, begins, empty_parts}
-
----- The place that is found, taken and dropped
-
--- the first that passes a test stands first in what is put behind
-pub find_front : (test : Place → Bool) (ps qs : List Place) (p : Place) → find test ps ≡ Some p → find test (ps ++ qs) ≡ Some p
-find_front test [] qs p h = absurd (let z : ⊥ = cc in z)
-find_front test (q ∷ ps) qs p h = elim (cases_Bool (test q)) [
-  | inl e ↦ rw e (rw e at h)
-  | inr e ↦ rw e (find_front test ps qs p (rw e at h))
-]
-
-module _ (a granules size : ℕ) where
-  abbrev taken : Place
-  taken = record { start = a; granules = granules; layer = layers.Back; status = InHand 0 }
-
-  abbrev take : List Place → List Place
-  take ps = change_found (is_live_at a) (with_status (InHand 0)) ps
-
-  abbrev drop : List Place → List Place
-  drop ps = remove_found (is_hand_at 0 a) ps
-
-  abbrev live_one : Place
-  live_one = live_place a granules size
-
-  found_is : (p : Place) → Some p ≡ Some live_one → p ≡ live_one
-  found_is p h = cc
-
-  none_in_front : (p : Place) (ps : List Place) → in_hand 0 (p ∷ ps) ≡ [] → (is_in_hand_of 0 p.status ≡ false) × (in_hand 0 ps ≡ [])
-  none_in_front p ps e = elim (cases_Bool (is_in_hand_of 0 p.status)) [
-    | inl k ↦ let f : p ∷ in_hand 0 ps ≡ [] = rw k at e in absurd (let z : ⊥ = cc in z)
-    | inr k ↦ (k, rw k at e)
-  ]
-
-  -- the live place is the one that is taken
-  in_hand_after : (ps : List Place) → in_hand 0 ps ≡ [] → find (has_address a) ps ≡ Some live_one → in_hand 0 (take ps) ≡ taken ∷ []
-  in_hand_after [] e h = absurd (let z : ⊥ = cc in z)
-  in_hand_after (p ∷ ps) e h =
-      let n = none_in_front p ps e in
-      elim (cases_Bool (has_address a p)) [
-        | inl t ↦ subst (λ (q : Place). in_hand 0 (take (q ∷ ps)) ≡ taken ∷ []) (sym (found_is p (rw t at h)))
-            (let s = eq-eqb a a refl in let k = n.1 in rw (s, k) refl)
-        | inr t ↦ let k = n.0 in rw (t, k) (in_hand_after ps n.1 (rw t at h))
-      ]
-
-  -- .. and it is the one that is dropped
-  dropped : (ps : List Place) → in_hand 0 ps ≡ [] → find (has_address a) ps ≡ Some live_one → drop (take ps) ≡ places_without ps a
-  dropped [] e h = refl
-  dropped (p ∷ ps) e h =
-      let n = none_in_front p ps e in
-      elim (cases_Bool (has_address a p)) [
-        | inl t ↦ subst (λ (q : Place). drop (take (q ∷ ps)) ≡ places_without (q ∷ ps) a) (sym (found_is p (rw t at h)))
-            (let s = eq-eqb a a refl in rw (s, s) refl)
-        | inr t ↦ rw t (rw t (ap (λ (qs : List Place). p ∷ qs) (dropped ps n.1 (rw t at h))))
-      ]
-
-  none_left : (ps : List Place) → in_hand 0 ps ≡ [] → in_hand 0 (places_without ps a) ≡ []
-  none_left [] e = refl
-  none_left (p ∷ ps) e =
-      let n = none_in_front p ps e in
-      let k = n.0 in
-      elim (cases_Bool (is_live_at a p)) [ inl t ↦ rw t n.1 | inr t ↦ rw (t, k) (none_left ps n.1) ]
+use Rattle.serial_laws.proofs.Allocate.{come, begins, four_parts}
+use Rattle.serial_laws.proofs.Found.{find_front, of_kind, none_left, take, taken, in_hand_after, dropped}
 
 ---- The calls
 
-module _ (s : Setting) (back : BackPart) (vs : VsPart) (lfh large : List Place) (words : ℕ → ℕ) (states : ℕ → CallState) (disturbed : ℕ → Bool) (history : SpanHistory) (room : 0 < s.limits.callers) (empty : hands (at_rest back vs lfh large words states disturbed history).state 0 ≡ []) (whole : are_used 4096 kinds.Back back.places back.area.spans ≡ true) where
+module _ (s : Setting) (back : BackPart) (vs : VsPart) (lfh large : List Place) (words : ℕ → ℕ) (states : ℕ → CallState) (disturbed : ℕ → Bool) (history : SpanHistory) (room : 0 < s.limits.callers) (empty : hands (at_rest back vs lfh large words states disturbed history).state 0 ≡ []) (whole : are_used 4096 kinds.Back back.places back.area.spans ≡ true) (used : are_used 4096 kinds.Vs vs.places back.area.spans ≡ true) where
   abbrev start : Configuration
   start = at_rest back vs lfh large words states disturbed history
 
   four : (in_hand 0 lfh ≡ []) × (in_hand 0 vs.places ≡ []) × (in_hand 0 back.places ≡ []) × (in_hand 0 large ≡ [])
-  four =
-      let p = empty_parts (in_hand 0 lfh ++ in_hand 0 vs.places ++ in_hand 0 back.places) (in_hand 0 large) empty in
-      let q = empty_parts (in_hand 0 lfh ++ in_hand 0 vs.places) (in_hand 0 back.places) p.0 in
-      let r = empty_parts (in_hand 0 lfh) (in_hand 0 vs.places) q.0 in
-      (r.0, r.1, q.1, p.1)
+  four = four_parts lfh vs.places back.places large empty
 
   -- the place at an address, while the lock of the back end is held
   abbrev place_there : ℕ → Option Place
@@ -102,7 +40,7 @@ module _ (s : Setting) (back : BackPart) (vs : VsPart) (lfh large : List Place) 
   frees_it : (a granules size : ℕ) (x : Span) → find (has_address a) back.places ≡ Some (live_place a granules size) → span_at back.area (a / 4096) ≡ Some x → x.kind ≡ kinds.Back →
       has_place 4096 (places_without back.places a) x ≡ false → are_used 4096 kinds.Back (places_without back.places a) (area_without back.area a).spans ≡ true →
       Ends s start (calls.Free a) replies.Done (area_without back.area a) (places_without back.places a)
-  frees_it a granules size x h spanned kind unused used =
+  frees_it a granules size x h spanned kind unused still =
       let m1 = after s start (by_zero (acts.Begin (calls.Free a))) in
       let m2 = after s m1 (by_zero acts.Enter) in
       let m3 = after s m2 (by_zero (acts.TakeLock whats.Back)) in
@@ -118,9 +56,12 @@ module _ (s : Setting) (back : BackPart) (vs : VsPart) (lfh large : List Place) 
       let found = there a (live_place a granules size) h in
       let same = eq-eqb size size refl in
       let page = eq-eqb (a / 4096) (a / 4096) refl in
-      let hand : find (has_address a) (in_hand 0 lfh ++ in_hand 0 vs.places ++ in_hand 0 (take a granules size back.places) ++ in_hand 0 large) ≡ Some (taken a granules size) = hand_found a granules size h in
-      let gone = dropped a granules size back.places four.2 h in
-      let left : hands m7.state 0 ≡ [] = rw (found, hand, gone) (rw (four.0, four.1, four.3, none_left a granules size back.places four.2) refl) in
+      let hand : find (has_address a) (in_hand 0 lfh ++ in_hand 0 vs.places ++ in_hand 0 (take a back.places) ++ in_hand 0 large) ≡ Some (taken a a granules size layers.Back) = hand_found a granules size h in
+      let here = eq-eqb a a refl in
+      let gone = dropped a a granules size layers.Back (is_live_at a) back.places here (rw here refl) (λ (p : Place) e. rw e refl) four.2 h in
+      let other : (y : Span) → find (begins_at (a / 4096)) back.area.spans ≡ Some y → is_of_kind kinds.Vs y ≡ false = λ y e. of_kind x y kinds.Back kinds.Vs spanned e kind refl in
+      let kept = ap (λ (ys : List Span). list_all (has_place 4096 vs.places) ys) (filter-remove_found (is_of_kind kinds.Vs) (begins_at (a / 4096)) back.area.spans other) ∙ used in
+      let left : hands m7.state 0 ≡ [] = rw (found, hand, gone) (rw (four.0, four.1, four.3, none_left (is_live_at a) back.places four.2) refl) in
       record {
         rest = acts.Enter ∷ r2;
         completes = record {
@@ -131,12 +72,12 @@ module _ (s : Setting) (back : BackPart) (vs : VsPart) (lfh large : List Place) 
               (come s m3 (acts.Take a size) r4 (rw (found, same) refl)
               (come s m4 (acts.Drop a) r5 (rw (found, hand) refl)
               (come s m5 (acts.Unspan (a / 4096)) r6 (rw (found, hand, gone, page, spanned, kind, unused) refl)
-              (come s m6 (acts.GiveLock whats.Back) (acts.Leave ∷ []) (rw (found, hand, gone) used)
+              (come s m6 (acts.GiveLock whats.Back) (acts.Leave ∷ []) (rw (found, hand, gone) still)
               (come s m7 acts.Leave [] (ap is_empty left) refl)))))));
           answered = record { own = refl; shape = (refl, refl) };
           idle = record { outside = refl; holds = refl; hands = left; demand = refl };
         };
-        at_rest = record { rest = refl; hands = left; whole = rw (found, hand, gone) used };
+        at_rest = record { rest = refl; hands = left; whole = rw (found, hand, gone) still; used = rw (found, hand) kept };
         only = record {
           area_is = refl;
           places_are = rw (found, hand, gone) refl;
@@ -148,11 +89,11 @@ module _ (s : Setting) (back : BackPart) (vs : VsPart) (lfh large : List Place) 
       }
     where
       hand_found : (a granules size : ℕ) → find (has_address a) back.places ≡ Some (live_place a granules size) →
-          find (has_address a) (in_hand 0 lfh ++ in_hand 0 vs.places ++ in_hand 0 (take a granules size back.places) ++ in_hand 0 large) ≡ Some (taken a granules size)
+          find (has_address a) (in_hand 0 lfh ++ in_hand 0 vs.places ++ in_hand 0 (take a back.places) ++ in_hand 0 large) ≡ Some (taken a a granules size layers.Back)
       hand_found a granules size h =
           let i = four.0 in let j = four.1 in let l = four.3 in
-          let k = in_hand_after a granules size back.places four.2 h in
           let e = eq-eqb a a refl in
+          let k = in_hand_after a a granules size layers.Back back.places e four.2 h in
           rw (i, j, l, k, e) refl
 
   sizes_it : (a granules size : ℕ) → find (has_address a) back.places ≡ Some (live_place a granules size) → Ends s start (calls.Size a) (replies.Number size) back.area back.places
@@ -180,7 +121,7 @@ module _ (s : Setting) (back : BackPart) (vs : VsPart) (lfh large : List Place) 
           answered = record { own = refl; shape = (refl, refl) };
           idle = record { outside = refl; holds = refl; hands = empty; demand = refl };
         };
-        at_rest = record { rest = refl; hands = empty; whole = whole };
+        at_rest = record { rest = refl; hands = empty; whole = whole; used = used };
         only = record { area_is = refl; places_are = refl; vs = refl; lfh = refl; large = refl; words = refl };
       }
 
@@ -205,7 +146,7 @@ module _ (s : Setting) (back : BackPart) (vs : VsPart) (lfh large : List Place) 
           answered = record { own = refl; shape = refl };
           idle = record { outside = refl; holds = refl; hands = empty; demand = refl };
         };
-        at_rest = record { rest = refl; hands = empty; whole = whole };
+        at_rest = record { rest = refl; hands = empty; whole = whole; used = used };
         only = record { area_is = refl; places_are = refl; vs = refl; lfh = refl; large = refl; words = refl };
       }
 
@@ -226,26 +167,26 @@ module _ (s : Setting) (back : BackPart) (vs : VsPart) (lfh large : List Place) 
           answered = record { own = refl; shape = refl };
           idle = record { outside = refl; holds = refl; hands = empty; demand = refl };
         };
-        at_rest = record { rest = refl; hands = empty; whole = whole };
+        at_rest = record { rest = refl; hands = empty; whole = whole; used = used };
         only = record { area_is = refl; places_are = refl; vs = refl; lfh = refl; large = refl; words = refl };
       }
 
 ---- .. from any configuration at rest
 
 pub frees : FreeEnds
-frees s m a granules size x room r h spanned kind unused used =
+frees s m a granules size x room r h spanned kind unused still =
     let E : Configuration → Type 0 = λ m. Ends s m (calls.Free a) replies.Done (area_without m.state.back.area a) (places_without m.state.back.places a) in
-    subst E (sym r.rest) (frees_it s m.state.back m.state.vs m.state.lfh m.state.large m.state.words m.now.calls m.now.disturbed m.now.span_history room r.hands r.whole a granules size x h spanned kind unused used)
+    subst E (sym r.rest) (frees_it s m.state.back m.state.vs m.state.lfh m.state.large m.state.words m.now.calls m.now.disturbed m.now.span_history room r.hands r.whole r.used a granules size x h spanned kind unused still)
 
 pub sizes : SizeEnds
 sizes s m a granules size room r h =
     let E : Configuration → Type 0 = λ m. Ends s m (calls.Size a) (replies.Number size) m.state.back.area m.state.back.places in
-    subst E (sym r.rest) (sizes_it s m.state.back m.state.vs m.state.lfh m.state.large m.state.words m.now.calls m.now.disturbed m.now.span_history room r.hands r.whole a granules size h)
+    subst E (sym r.rest) (sizes_it s m.state.back m.state.vs m.state.lfh m.state.large m.state.words m.now.calls m.now.disturbed m.now.span_history room r.hands r.whole r.used a granules size h)
 
 pub not_live : NotLiveEnds
 not_live s m a room r h =
     let F : Configuration → Type 0 = λ m. Ends s m (calls.Free a) replies.NotLive m.state.back.area m.state.back.places in
     let S : Configuration → Type 0 = λ m. Ends s m (calls.Size a) replies.NotLive m.state.back.area m.state.back.places in (
-      subst F (sym r.rest) (frees_none s m.state.back m.state.vs m.state.lfh m.state.large m.state.words m.now.calls m.now.disturbed m.now.span_history room r.hands r.whole a h),
-      subst S (sym r.rest) (sizes_none s m.state.back m.state.vs m.state.lfh m.state.large m.state.words m.now.calls m.now.disturbed m.now.span_history room r.hands r.whole a h),
+      subst F (sym r.rest) (frees_none s m.state.back m.state.vs m.state.lfh m.state.large m.state.words m.now.calls m.now.disturbed m.now.span_history room r.hands r.whole r.used a h),
+      subst S (sym r.rest) (sizes_none s m.state.back m.state.vs m.state.lfh m.state.large m.state.words m.now.calls m.now.disturbed m.now.span_history room r.hands r.whole r.used a h),
     )

@@ -1,5 +1,9 @@
 pub mod Turns
 pub mod Places
 pub mod Allocate
+pub mod Found
 pub mod Free
 pub mod Sorted
+pub mod NewSpan
+pub mod VsAllocate
+pub mod VsFree

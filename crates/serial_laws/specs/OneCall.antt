@@ -13,11 +13,13 @@ use Rattle.heap_model.specs.History.{first_configuration}
 use Rattle.heap_model.specs.Alone.{alone, configuration_by, may_all_come, at_rest}
 use Rattle.heap_model.specs.Serial.{IsIdle, IsAnswered, IsSerial}
 
--- Nobody is at the gate, no lock is held, nothing is demanded, caller 0 has nothing in hand, and each back-end span has its place.
+-- Nobody is at the gate, no lock is held, nothing is demanded, caller 0 has nothing in hand, and each span of the back end and of the
+-- variable-size layer has a place.
 pub record IsAtRest (m : Configuration) : Type 0 where
   pub rest : m ≡ at_rest m.state.back m.state.vs m.state.lfh m.state.large m.state.words m.now.calls m.now.disturbed m.now.span_history
   pub hands : hands m.state 0 ≡ []
   pub whole : leaves_whole m.state whats.Back ≡ true
+  pub used : leaves_whole m.state whats.Vs ≡ true
 
 -- From this configuration the acts behind the Begin of this call may come, and end it with this reply.
 pub record Completes (s : Setting) (m : Configuration) (call : Call) (reply : Reply) (rest : List Act) : Type 0 where

@@ -3,6 +3,7 @@
 
 ghost use Rattle.serial_laws.specs.OneCall.{InTurnIsSerial};
 ghost use Rattle.serial_laws.specs.BackCalls.{AllocationEnds, ReservingEnds, RefusalEnds, FreeEnds, SizeEnds, NotLiveEnds};
+ghost use Rattle.serial_laws.specs.VsCalls.{GapAllocationEnds, SpanAllocationEnds, ReservingSpanEnds, VsRefusalEnds, VsFreeEnds, VsFreeSpanEnds, VsSizeEnds};
 
 /// Calls that each complete from where the one before ended make up one legal history of caller 0 alone.
 pub fn in_turn_is_serial()
@@ -37,4 +38,39 @@ pub fn size_ends()
 /// A free, or a question for the size, at an address where no block lives.
 pub fn not_live_ends()
     ensures { NotLiveEnds }
+{}
+
+/// An allocation by the variable-size layer, where a gap fits.
+pub fn gap_allocation_ends()
+    ensures { GapAllocationEnds }
+{}
+
+/// An allocation by the variable-size layer for which a span is made in a reserved segment.
+pub fn span_allocation_ends()
+    ensures { SpanAllocationEnds }
+{}
+
+/// An allocation by the variable-size layer for whose span the next segment is reserved.
+pub fn reserving_span_ends()
+    ensures { ReservingSpanEnds }
+{}
+
+/// An allocation of this layer's size for which no gap fits, and no range fits a span.
+pub fn vs_refusal_ends()
+    ensures { VsRefusalEnds }
+{}
+
+/// A free of a block of the variable-size layer whose span has another one.
+pub fn vs_free_ends()
+    ensures { VsFreeEnds }
+{}
+
+/// A free of the last block of a span, which ends the span.
+pub fn vs_free_span_ends()
+    ensures { VsFreeSpanEnds }
+{}
+
+/// A question for the size of a block of the variable-size layer.
+pub fn vs_size_ends()
+    ensures { VsSizeEnds }
 {}

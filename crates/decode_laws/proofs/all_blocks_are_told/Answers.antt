@@ -1,11 +1,7 @@
 use Rattle.heap_model.specs.History.{configuration_of}
-use Rattle.heap_soundness.proofs.Kept.{keeps_all}
-use Rattle.heap_soundness.proofs.Whole.{state_sound}
-use Rattle.heap_soundness.proofs.Addresses.{addresses_sound, blocks_sound}
-use Rattle.decode_laws.proofs.Shown.{told_all}
+use Rattle.decode_laws.proofs.Shown.{told_whole}
+use Rattle.decode_laws.proofs.Known.{known_state}
 use Rattle.decode_laws.proofs.all_blocks_are_told.Goals as goal
 
 pub returns : goal.returns
-returns c = λ s es image valid legal shown only.
-    let w = keeps_all s es valid legal in
-    told_all s (configuration_of s es).state image s.limits (state_sound s (configuration_of s es) w valid) (addresses_sound s (configuration_of s es) w) (blocks_sound s (configuration_of s es) w) shown only
+returns c = λ s es image valid legal shown hands only. told_whole s (configuration_of s es).state image (known_state s es valid legal) shown hands only

@@ -25,7 +25,7 @@ use Rattle.command_run.proofs.ServedLemmas.{fit_served}
 use Rattle.command_run.proofs.run.report_for.Goals as goal
 
 pub run_rounds-requires : goal.run_rounds-requires
-run_rounds-requires c = fit_served c.args.script.now c.requires.fit
+run_rounds-requires c = fit_served c.args.script.now c.in_ok-heap.heap c.requires.fit c.in_ok-heap.ensures.stands
 
 -- the text of a report, where there is one
 report_text_of : (r : Result Text OutOfMemory) (due : List ℕ) (segments : ℕ) (script : ScriptLines) (said : (written : List ℕ) → written ≡ due → IsReportOf segments script written) →
@@ -49,14 +49,14 @@ returns c =
     (subst (λ (z : ℕ). IsSerial heap.limits z calls (in_rounds answers) last.state) c.in_ok-heap.ensures.seed
     (serial heap.limits heap.seed calls (in_rounds answers) now.1.rests now.1.complete)) in
     let ranges : ranges_of image ≡ page_ranges_of last.state.back.area = ranges_are image _ last.state (c.close-image.ensures.shows last now.1.stands) in
-    let blocks : decode image.descs ≡ live last.state = c.close-image.ensures.blocks last now.1.stands in
-    report_text_of c.report.result (report_of commands answers (ranges_of image) (decode image.descs)) c.args.segments script
+    let blocks : decode image ≡ live last.state = c.close-image.ensures.blocks last now.1.stands in
+    report_text_of c.report.result (report_of commands answers (ranges_of image) (decode image)) c.args.segments script
     (λ written e. record {
       answers = answers;
       state = last.state;
       fit = c.in_ok-answers.ensures.fit;
       serial = history;
-      report = e ∙ ap (λ (rs : List PageRange). report_of commands answers rs (decode image.descs)) ranges
+      report = e ∙ ap (λ (rs : List PageRange). report_of commands answers rs (decode image)) ranges
           ∙ ap (report_of commands answers (page_ranges_of last.state.back.area)) blocks;
     })
     c.report.ensures

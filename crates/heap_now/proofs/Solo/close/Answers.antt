@@ -1,20 +1,22 @@
-use Rattle.std.proofs.Common.{ℕ, ◌*◌, ◌∙◌, List, length, sym, ap, subst}
+use Rattle.std.proofs.Common.{ℕ, ◌*◌, ◌∙◌, List, length, sym, ap}
 use Rattle.page_region.specs.Held.{Held}
-use Rattle.page_ranges.specs.Ranges.{IsWhole}
-use Rattle.layout_decode.specs.Decode.{decode}
-use Rattle.heap_now.specs.Standing.{LoneHeap}
-use Rattle.heap_now.proofs.Shown.{closes}
-use Rattle.heap_now.proofs.Lives.{lives}
+use Rattle.heap_now.proofs.Closing.{closes, tells, can_be_read}
 use Rattle.heap_now.proofs.Solo.close.Goals as goal
 
 pub returns-clause-shows : goal.returns-clause-shows
-returns-clause-shows c = λ m st. closes _ _ c.self.view_is c.into_parts-region.ensures.sound m st _ _ c.into_parts-region.ensures.region c.into_parts-region.ensures.descs
+returns-clause-shows c =
+    closes _ _ c.self.view_is c.into_parts-region.ensures.sound c.into_heads-heads.ensures.shown _ _ c.key_of-key.result c.into_heads-heads.result
+    c.into_parts-region.ensures.region c.into_parts-region.ensures.descs c.key_of-key.ensures c.into_heads-heads.ensures.chunks
 
 pub returns-clause-blocks : goal.returns-clause-blocks
-returns-clause-blocks c = λ m st. ap decode (c.into_parts-region.ensures.descs ∙ ap (λ (h : LoneHeap). h.kept.words) c.self.view_is) ∙ lives c.args.self m st
+returns-clause-blocks c =
+    tells _ _ c.self.view_is c.into_parts-region.ensures.sound c.into_heads-heads.ensures.shown _ _ c.key_of-key.result c.into_heads-heads.result
+    c.into_parts-region.ensures.region c.into_parts-region.ensures.descs c.key_of-key.ensures c.into_heads-heads.ensures.chunks
 
-pub returns-clause-whole : goal.returns-clause-whole
-returns-clause-whole c = subst IsWhole (sym c.into_parts-region.ensures.descs) c.into_parts-region.ensures.sound.whole
+pub returns-clause-readable : goal.returns-clause-readable
+returns-clause-readable c =
+    can_be_read _ _ c.self.view_is c.into_parts-region.ensures.sound c.into_heads-heads.ensures.shown _ _ c.key_of-key.result c.into_heads-heads.result
+    c.into_parts-region.ensures.region c.into_parts-region.ensures.descs c.key_of-key.ensures c.into_heads-heads.ensures.chunks c.self.invariant
 
 pub returns-clause-pages : goal.returns-clause-pages
 returns-clause-pages c =

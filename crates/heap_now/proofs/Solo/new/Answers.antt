@@ -1,0 +1,15 @@
+use Rattle.std.proofs.Common.{◌∙◌, ap}
+use Rattle.vs_layer.specs.Effects.{nothing_kept}
+use Rattle.heap_now.proofs.Opening.{opens, begins}
+use Rattle.heap_now.proofs.Solo.new.Goals as goal
+
+pub returns-clause-stands : goal.returns-clause-stands
+returns-clause-stands c =
+    opens c.args.limits c.args.seed c.in_ok-back.back c.in_ok-vs.vs c.requires c.in_ok-back.ensures.area c.in_ok-back.ensures.marks c.in_ok-back.ensures.segments
+    (c.in_ok-vs.ensures ∙ ap (nothing_kept c.args.limits.segments) c.key_of.ensures)
+
+pub invariant_of-result : goal.invariant_of-result
+invariant_of-result c =
+    begins c.args.limits c.args.seed c.in_ok-back.back c.in_ok-vs.vs
+    (opens c.args.limits c.args.seed c.in_ok-back.back c.in_ok-vs.vs c.requires c.in_ok-back.ensures.area c.in_ok-back.ensures.marks c.in_ok-back.ensures.segments
+    (c.in_ok-vs.ensures ∙ ap (nothing_kept c.args.limits.segments) c.key_of.ensures))

@@ -1,0 +1,5 @@
+use Rattle.std.proofs.Common.{◌-◌}
+use Rattle.report_text.proofs.tests.+is_row.Given as goal
+
+abbrev pub decreases-is_row : goal.decreases-is_row
+decreases-is_row l = l.to - l.from

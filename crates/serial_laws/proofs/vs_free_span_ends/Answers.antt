@@ -1,0 +1,5 @@
+use Rattle.serial_laws.proofs.VsFree.{vs_frees_span}
+use Rattle.serial_laws.proofs.vs_free_span_ends.Goals as goal
+
+pub returns : goal.returns
+returns c = vs_frees_span
