@@ -1,36 +1,19 @@
--- What one caller alone does, call by call.
-use Rattle.std.specs.Prelude.{◌≡◌, ℕ, ◌*◌, ◌/◌, ◌<◌, Bool, true, List, [], ◌∷◌, Some, None}
+-- An allocation by the back end, entry by entry, of one caller alone.
+use Rattle.std.specs.Prelude.{◌≡◌, ℕ, ◌*◌, ◌/◌, ◌<◌, Bool, true, List, [], ◌∷◌, Some}
 use Rattle.heap_model.specs.declared.Flags.{Flags}
 use Rattle.heap_model.specs.declared.Call.TheVariants as calls
-use Rattle.heap_model.specs.declared.Act.{Act}
 use Rattle.heap_model.specs.declared.Act.TheVariants as acts
 use Rattle.heap_model.specs.declared.Entry.{Entry}
 use Rattle.heap_model.specs.declared.Kind.TheVariants as kinds
 use Rattle.heap_model.specs.declared.Layer.TheVariants as layers
 use Rattle.heap_model.specs.declared.What.TheVariants as whats
 use Rattle.heap_model.specs.Geometry.{route_of, is_paged, pages_of}
-use Rattle.heap_model.specs.State.{Setting, BackPart, VsPart, Place, open_locks, hands}
+use Rattle.heap_model.specs.State.{Setting, BackPart, VsPart, Place, hands}
 use Rattle.heap_model.specs.Backend.{back_place}
-use Rattle.heap_model.specs.CallState.{CallState, Nothing, SpanHistory, Configuration}
+use Rattle.heap_model.specs.CallState.{CallState, SpanHistory}
 use Rattle.heap_model.specs.Legal.{leaves_whole}
 use Rattle.heap_model.specs.History.{may_all_follow}
-
-abbrev pub by_zero : Act → Entry
-by_zero act = record { caller = 0; act = act }
-
--- a moment at which nobody is inside and nothing is held
-abbrev pub at_rest : BackPart → VsPart → List Place → List Place → (ℕ → ℕ) → (ℕ → CallState) → (ℕ → Bool) → SpanHistory → Configuration
-at_rest back vs lfh large words calls disturbed span_history = record {
-  state = record {
-    gate = record { counted = []; turning = []; owner = None; locks = open_locks };
-    back = back;
-    vs = vs;
-    lfh = lfh;
-    large = large;
-    words = words;
-  };
-  now = record { calls = calls; disturbed = disturbed; span_history = span_history; demand = Nothing };
-}
+use Rattle.heap_model.specs.Alone.{by_zero, at_rest}
 
 -- the entries of an allocation by the back end, in a segment that is reserved
 abbrev pub placing : ℕ → Flags → ℕ → List Entry

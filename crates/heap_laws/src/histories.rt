@@ -4,12 +4,13 @@ ghost use Rattle.heap_model.specs.declared.Entry.{Entry};
 ghost use Rattle.std.specs.List.{list_any};
 ghost use Rattle.heap_model.specs.History.{is_legal, configuration_of, refused_from, first_configuration};
 ghost use Rattle.heap_model.specs.State.{live};
-ghost use Rattle.heap_laws.specs.Serial.{Serves};
+ghost use Rattle.serial_laws.specs.OneCall.{CompleteInTurn};
+ghost use Rattle.serial_laws.specs.BackCalls.{plain};
 ghost use Rattle.heap_model.specs.declared.Call.TheVariants as calls;
 ghost use Rattle.heap_model.specs.declared.Reply.TheVariants as replies;
 ghost use Rattle.heap_laws.specs.Rows.{back_end, back_span, four_taken, three_left};
 ghost use Rattle.heap_model.specs.Backend.{back_place};
-ghost use Rattle.heap_laws.specs.Worked.{one, asks_back, allocates_back, wrong_size, wrong_page, frees_back, allocates_vs, three_vs, seventeen_vs, searches_lfh, with_search, drawn, claims_lowest, places_late, plain, first_call, resizes_back, compacts, decommits_wrong, decommits_twice, two, meets_others, meets_owner, fills_large, resizes_vs, off_limits, makes_lfh, spans_too_long};
+ghost use Rattle.heap_laws.specs.Worked.{one, asks_back, allocates_back, wrong_size, wrong_page, frees_back, allocates_vs, three_vs, seventeen_vs, searches_lfh, with_search, drawn, claims_lowest, places_late, first_call, resizes_back, compacts, decommits_wrong, decommits_twice, two, meets_others, meets_owner, fills_large, resizes_vs, off_limits, makes_lfh, spans_too_long};
 
 pub fn back_is_legal()
     ensures legal { is_legal one allocates_back ≡ true }
@@ -58,7 +59,7 @@ pub fn back_rows()
 {}
 
 pub fn first_is_serial()
-    ensures { Serves one first_configuration (calls.Alloc 131073 plain ∷ []) (replies.Address 8192 ∷ []) (first_call ∷ []) }
+    ensures { CompleteInTurn one first_configuration (calls.Alloc 131073 plain ∷ []) (replies.Address 8192 ∷ []) (first_call ∷ []) }
 {}
 
 pub fn more_rows()

@@ -1,13 +1,14 @@
 use Rattle.std.proofs.Common.{◌≡◌, ℕ, Bool, true, false, ◌&&◌, ◌||◌, not, List, [], ◌∷◌, ◌++◌, Option, Some, None, refl, sym, ap, ◌∙◌, subst, inl, inr, ◌⊎◌}
 use Rattle.std.specs.List.{list_all, list_any, find}
-use Rattle.std.proofs.lemmas.Bool.{and_parts, and_from, or_cases, or_left, or_right, cases_Bool, false≢true, true≢false, both_ways, not-true}
+use Rattle.std.proofs.lemmas.List.Folds.{list_any-append}
+use Rattle.std.proofs.lemmas.Bool.{and_parts, and_from, or_cases, cases_Bool, false≢true, true≢false, both_ways, not-true}
 use Rattle.heap_model.specs.declared.Call.TheVariants as calls
 use Rattle.heap_model.specs.declared.Act.{Act}
 use Rattle.heap_model.specs.declared.Act.TheVariants as acts
 use Rattle.heap_model.specs.declared.Kind.{Kind}
 use Rattle.heap_model.specs.declared.Kind.TheVariants as kinds
 use Rattle.heap_model.specs.declared.What.TheVariants as whats
-use Rattle.heap_model.specs.State.{Setting, State, Span, Place, has_address, place_at, exclusive_places, all_places, in_hand, is_in_hand_of, hands, guarded, holds, is_live_of, is_kind}
+use Rattle.heap_model.specs.State.{Setting, State, Span, Place, has_address, place_at, exclusive_places, all_places, is_live_of, is_kind}
 use Rattle.heap_model.specs.Ranges.{gaps}
 use Rattle.heap_model.specs.Stay.{for_some}
 use Rattle.heap_model.specs.CallState.{Configuration, Nothing, SpanBy, caller_view}
@@ -16,7 +17,11 @@ use Rattle.heap_model.specs.Legal.{is_compact, may, may_follow, after, meets_dem
 use Rattle.heap_model.proofs.GateSound.{row_of}
 use Rattle.heap_model.proofs.ListLemmas.{for_some_parts}
 use Rattle.heap_model.proofs.Others.{span_locks}
-use Rattle.heap_laws.specs.Shape.{is_left_out, shape_of, by_zero, configuration_by, may_all_come, AreUsed, FoundSize}
+use Rattle.heap_soundness.proofs.Lists.{found_passes, found_in, any_in, any_found}
+use Rattle.heap_soundness.proofs.Addresses.{exclusive_in_all}
+use Rattle.heap_model.specs.Alone.{by_zero, configuration_by, may_all_come}
+use Rattle.heap_model.specs.Shape.{is_left_out, shape_of}
+use Rattle.heap_laws.specs.Size.{AreUsed, FoundSize}
 use Rattle.heap_laws.proofs.laws.size_is_one.Goals as goal
 
 -- what stays from entry to entry of a call of size
@@ -60,13 +65,13 @@ no_active s m a bucket h e =
     false≢true (and_parts ((caller_view m 0).entered && (caller_view m 0).vs) false (and_parts _ _ (and_parts _ _ f).0).0).1
 
 -- what a test of all says of the one that is found
-found_passes : (test : Span → Bool) (p : Span → Bool) (xs : List Span) (x : Span) → find p xs ≡ Some x → list_all test xs ≡ true → test x ≡ true
-found_passes test p [] x e h = absurd (let z : ⊥ = cc in z)
-found_passes test p (y ∷ ys) x e h =
+passes_of_all : (test : Span → Bool) (p : Span → Bool) (xs : List Span) (x : Span) → find p xs ≡ Some x → list_all test xs ≡ true → test x ≡ true
+passes_of_all test p [] x e h = absurd (let z : ⊥ = cc in z)
+passes_of_all test p (y ∷ ys) x e h =
     let k = and_parts (test y) (list_all test ys) h in
     elim (cases_Bool (p y)) [
       | inl f ↦ let g : Some y ≡ Some x = (rw f at e) in let same : y ≡ x = cc in subst (λ (z : Span). test z ≡ true) same k.0
-      | inr f ↦ found_passes test p ys x (rw f at e) k.1
+      | inr f ↦ passes_of_all test p ys x (rw f at e) k.1
     ]
 
 no_unspan : (m : Configuration) (a first : ℕ) → (m.now.calls 0).call ≡ Some (calls.Size a) → AreUsed m.state → may_unspan m.state (caller_view m 0) first ≡ true → ⊥
@@ -74,7 +79,7 @@ no_unspan m a first h used e =
     let p = (and_parts (caller_view m 0).back (for_some (span_at m.state.back.area first) (is_unused m.state (caller_view m 0))) e).1 in
     let q = for_some_parts (span_at m.state.back.area first) (is_unused m.state (caller_view m 0)) p in
     let r = and_parts (may_unspan_of (caller_view m 0) q.0.kind) (not (has_place 4096 (places_in m.state q.0.kind) q.0)) q.2 in
-    let u = found_passes (λ x. is_kind x.kind kinds.Lfh || has_place 4096 (places_in m.state x.kind) x) (begins_at first) m.state.back.area.spans q.0 q.1 used in
+    let u = passes_of_all (λ x. is_kind x.kind kinds.Lfh || has_place 4096 (places_in m.state x.kind) x) (begins_at first) m.state.back.area.spans q.0 q.1 used in
     none q.0.kind (or_cases (is_kind q.0.kind kinds.Lfh) (has_place 4096 (places_in m.state q.0.kind) q.0) u) r.1 r.0
   where
     not_compact : for_some (m.now.calls 0).call is_compact ≡ true → ⊥
@@ -142,92 +147,23 @@ tail s old a m (act ∷ rest) h b l done shape =
       | inr e ↦ let no : act ∷ shape_of rest ≡ [] = (rw e at shape) in absurd (let z : ⊥ = cc in z)
     ]
 
--- the places that a caller looks at first are places
-module _ (test : Place → Bool) where
-  any_cases : (xs ys : List Place) → list_any test (xs ++ ys) ≡ true → (list_any test xs ≡ true) ⊎ (list_any test ys ≡ true)
-  any_cases [] ys h = inr h
-  any_cases (x ∷ xs) ys h = elim (or_cases (test x) (list_any test (xs ++ ys)) h) [
-    | inl e ↦ inl (or_left (test x) (list_any test xs) e)
-    | inr e ↦ elim (any_cases xs ys e) [ inl f ↦ inl (or_right (test x) (list_any test xs) f) | inr f ↦ inr f ]
-  ]
-
-  any_left : (xs ys : List Place) → list_any test xs ≡ true → list_any test (xs ++ ys) ≡ true
-  any_left [] ys h = absurd (false≢true h)
-  any_left (x ∷ xs) ys h = elim (or_cases (test x) (list_any test xs) h) [
-    | inl e ↦ or_left (test x) (list_any test (xs ++ ys)) e
-    | inr e ↦ or_right (test x) (list_any test (xs ++ ys)) (any_left xs ys e)
-  ]
-
-  any_right : (xs ys : List Place) → list_any test ys ≡ true → list_any test (xs ++ ys) ≡ true
-  any_right [] ys h = h
-  any_right (x ∷ xs) ys h = or_right (test x) (list_any test (xs ++ ys)) (any_right xs ys h)
-
-  any_in_hand : (c : ℕ) (xs : List Place) → list_any test (in_hand c xs) ≡ true → list_any test xs ≡ true
-  any_in_hand c [] h = h
-  any_in_hand c (x ∷ xs) h = elim (cases_Bool (is_in_hand_of c x.status)) [
-    | inl e ↦ elim (or_cases (test x) (list_any test (in_hand c xs)) (rw e at h)) [
-      | inl f ↦ or_left (test x) (list_any test xs) f
-      | inr f ↦ or_right (test x) (list_any test xs) (any_in_hand c xs f)
+-- the place that a caller finds is one of all
+found_any : (st : State) (c a : ℕ) (t : Place → Bool) → for_some (place_at st c a) t ≡ true → list_any (λ p. has_address a p && t p) (all_places st) ≡ true
+found_any st c a t h =
+    let test : Place → Bool = λ p. has_address a p && t p in
+    let first = exclusive_places st c in
+    let f = for_some_parts (place_at st c a) t h in
+    let p = and_from (has_address a f.0) (t f.0) (found_passes (has_address a) (first ++ all_places st) f.0 f.1) f.2 in
+    let k = any_in test (first ++ all_places st) f.0 (found_in (has_address a) (first ++ all_places st) f.0 f.1) p in
+    elim (or_cases (list_any test first) (list_any test (all_places st)) (sym (list_any-append test first (all_places st)) ∙ k)) [
+      | inl e ↦ let x = any_found test first e in any_in test (all_places st) x.0 (exclusive_in_all st c x.0 x.1) x.2
+      | inr e ↦ e
     ]
-    | inr e ↦ or_right (test x) (list_any test xs) (any_in_hand c xs (rw e at h))
-  ]
-
-  any_guarded : (xs : List Place) (b : Bool) → list_any test (guarded xs b) ≡ true → list_any test xs ≡ true
-  any_guarded xs true h = h
-  any_guarded xs false h = absurd (false≢true h)
-
-  in_lfh : (st : State) → list_any test st.lfh ≡ true → list_any test (all_places st) ≡ true
-  in_lfh st h = any_left (st.lfh ++ st.vs.places ++ st.back.places) st.large (any_left (st.lfh ++ st.vs.places) st.back.places (any_left st.lfh st.vs.places h))
-
-  in_vs : (st : State) → list_any test st.vs.places ≡ true → list_any test (all_places st) ≡ true
-  in_vs st h = any_left (st.lfh ++ st.vs.places ++ st.back.places) st.large (any_left (st.lfh ++ st.vs.places) st.back.places (any_right st.lfh st.vs.places h))
-
-  in_back : (st : State) → list_any test st.back.places ≡ true → list_any test (all_places st) ≡ true
-  in_back st h = any_left (st.lfh ++ st.vs.places ++ st.back.places) st.large (any_right (st.lfh ++ st.vs.places) st.back.places h)
-
-  in_large : (st : State) → list_any test st.large ≡ true → list_any test (all_places st) ≡ true
-  in_large st h = any_right (st.lfh ++ st.vs.places ++ st.back.places) st.large h
-
-  in_hands : (st : State) (c : ℕ) → list_any test (hands st c) ≡ true → list_any test (all_places st) ≡ true
-  in_hands st c h = elim (any_cases (in_hand c st.lfh ++ in_hand c st.vs.places ++ in_hand c st.back.places) (in_hand c st.large) h) [
-    | inr e ↦ in_large st (any_in_hand c st.large e)
-    | inl e ↦ elim (any_cases (in_hand c st.lfh ++ in_hand c st.vs.places) (in_hand c st.back.places) e) [
-      | inr f ↦ in_back st (any_in_hand c st.back.places f)
-      | inl f ↦ elim (any_cases (in_hand c st.lfh) (in_hand c st.vs.places) f) [
-        | inl g ↦ in_lfh st (any_in_hand c st.lfh g)
-        | inr g ↦ in_vs st (any_in_hand c st.vs.places g)
-      ]
-    ]
-  ]
-
-  in_all : (st : State) (c : ℕ) → list_any test (exclusive_places st c ++ all_places st) ≡ true → list_any test (all_places st) ≡ true
-  in_all st c h = elim (any_cases (exclusive_places st c) (all_places st) h) [
-    | inr e ↦ e
-    | inl e ↦ elim (any_cases (hands st c ++ guarded st.vs.places (holds st.gate c whats.Vs) ++ guarded st.back.places (holds st.gate c whats.Back)) (guarded st.large (holds st.gate c whats.Large)) e) [
-      | inr f ↦ in_large st (any_guarded st.large _ f)
-      | inl f ↦ elim (any_cases (hands st c ++ guarded st.vs.places (holds st.gate c whats.Vs)) (guarded st.back.places (holds st.gate c whats.Back)) f) [
-        | inr g ↦ in_back st (any_guarded st.back.places _ g)
-        | inl g ↦ elim (any_cases (hands st c) (guarded st.vs.places (holds st.gate c whats.Vs)) g) [
-          | inl z ↦ in_hands st c z
-          | inr z ↦ in_vs st (any_guarded st.vs.places _ z)
-        ]
-      ]
-    ]
-  ]
-
--- the place that is found passes, and is one of the list
-found_any : (p t : Place → Bool) (xs : List Place) → for_some (find p xs) t ≡ true → list_any (λ x. p x && t x) xs ≡ true
-found_any p t [] h = h
-found_any p t (x ∷ xs) h = elim (cases_Bool (p x)) [
-  | inl e ↦ or_left (p x && t x) (list_any (λ y. p y && t y) xs) (and_from (p x) (t x) e (rw e at h))
-  | inr e ↦ or_right (p x && t x) (list_any (λ y. p y && t y) xs) (found_any p t xs (rw e at h))
-]
 
 sized : (s : Setting) (old : State) (a n : ℕ) (m : Configuration) → Same old a m → may s m 0 (acts.Sized a n) ≡ true → list_any (λ p. has_address a p && is_live_of n p.status) (all_places old) ≡ true
 sized s old a n m h e =
     let k = (and_parts (caller_view m 0).entered (for_some (place_at m.state 0 a) (λ p. is_live_of n p.status)) e).1 in
-    let f = found_any (has_address a) (λ p. is_live_of n p.status) (exclusive_places m.state 0 ++ all_places m.state) k in
-    let g = in_all (λ p. has_address a p && is_live_of n p.status) m.state 0 f in
+    let g = found_any m.state 0 a (λ p. is_live_of n p.status) k in
     let v = h.vs in let b = h.back in let l = h.lfh in let r = h.large in
     let same : all_places m.state ≡ all_places old = all_same m.state.lfh old.lfh m.state.vs.places old.vs.places m.state.back.places old.back.places m.state.large old.large l (ap (λ x. x.places) v) (ap (λ x. x.places) b) r in
     subst (λ (ps : List Place). list_any (λ p. has_address a p && is_live_of n p.status) ps ≡ true) same g

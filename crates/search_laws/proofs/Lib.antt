@@ -1,0 +1,16 @@
+pub mod Steps
+pub mod Words
+pub mod Passes
+pub mod Searching
+pub mod Blocks
+pub mod Ends
+pub mod Placing
+pub mod NewSpan
+pub mod Fuller
+pub mod VsEnds
+pub mod Within
+pub mod Falling
+pub mod Whole
+pub mod Freeing
+pub mod Fallen
+pub mod Activating

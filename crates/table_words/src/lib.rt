@@ -1,0 +1,144 @@
+//! The words of the heap's table as one caller alone keeps them: plain loads and stores, at the places that the table has.
+//!
+//! A word has 64 bits. Where the regions lie is told by the constants and functions here and in `claim_rule`; the regions do not
+//! overlap and fill the table, which `claim_rule` proves.
+#![tactic(auto)]
+
+#[cfg(test)]
+mod tests;
+
+ghost use Rattle.std.specs.Prelude.{◌≡◌, ◌+◌, ◌*◌, ◌<◌, ◌≤◌, IfOk, length, replicate, slice_index, slice_set};
+ghost use Rattle.heap_model.specs.Limits.{AreValid};
+ghost use Rattle.claim_rule.specs.Places.{active_region, hints_region, tags_region, bitmaps_region, sizes_region, data_region, word_count};
+
+use claim_rule::{ACTIVE, HINTS, TAGS};
+use heap_model::{Limits, OutOfMemory};
+use std::alloc::Global;
+use std::marker::Model;
+
+/// The words of a region for each page, bitmap and granule of a segment, and behind them all.
+const SEGMENT_PAGES: usize = 256;
+
+const SEGMENT_GRANULES: usize = 65536;
+
+const SEGMENT_WORDS: usize = 131_072;
+
+const PAGE_WORDS: usize = 512;
+
+/// The bitmap words of a page.
+pub const PAGE_BITMAPS: usize = 4;
+
+/// The hint words of a bucket, one for each slot.
+pub const BUCKET_HINTS: usize = 16;
+
+/// The words of a table. Contracts see the list of them.
+#[derive(Drop)]
+pub struct Words {
+    words: Vec<u64>,
+}
+
+impl Model for Words {
+    ghost use Rattle.std.specs.Prelude.{ℕ, List};
+
+    ghost Value = { List ℕ };
+
+    ghost view = { λ w. w.words.items };
+}
+
+impl Words {
+    /// All words of the table of a heap with these limits, each 0.
+    pub fn new(alloc: Global, limits: &Limits) -> Result<Words, OutOfMemory>
+        requires { AreValid limits.now }
+        ensures { IfOk result (λ w. w ≡ replicate (word_count limits.now) 0) }
+    {
+        let words = vec![in alloc; 0u64; count(limits)]?;
+        Ok(Words { words })
+    }
+
+    /// The word at a place.
+    pub fn at(&self, i: usize) -> u64
+        requires { i < length self.now }
+        ensures { result ≡ slice_index self.now i }
+    {
+        self.words[i]
+    }
+
+    /// Stores a word.
+    pub fn set(&mut self, i: usize, value: u64)
+        requires { i < length self.old }
+        ensures { self.new ≡ slice_set self.old i value }
+    {
+        self.words[i] = value;
+    }
+
+    /// The words, as a search over many of them reads them.
+    pub fn as_slice(&self) -> &[u64]
+        ensures { result.now ≡ self.now }
+    {
+        self.words.as_slice()
+    }
+}
+
+/// How many words the table has.
+pub fn count(limits: &Limits) -> usize
+    requires { AreValid limits.now }
+    ensures { result ≡ word_count limits.now }
+{
+    data_from(limits)
+        + SEGMENT_WORDS * limits.segments as usize
+        + PAGE_WORDS * limits.large_pages as usize
+}
+
+/// Where the word of an active bucket is.
+pub fn active_at(bucket: u8) -> usize
+    requires { (1 ≤ bucket) × (bucket ≤ 128) }
+    ensures { result + 1 ≡ active_region.from + bucket }
+{
+    ACTIVE + usize::from(bucket) - 1
+}
+
+/// Where the hint of a bucket and a slot is.
+pub fn hint_at(bucket: u8, slot: u8) -> usize
+    requires { (1 ≤ bucket) × (bucket ≤ 128) × (slot < 16) }
+    ensures { result + 16 ≡ hints_region.from + 16 * bucket + slot }
+{
+    HINTS + BUCKET_HINTS * (usize::from(bucket) - 1) + usize::from(slot)
+}
+
+/// Where the tag of a page is.
+pub fn tag_at(limits: &Limits, page: u32) -> usize
+    requires limits { AreValid limits.now }
+    requires page { page < 256 * limits.now.segments }
+    ensures { result ≡ (tags_region limits.now).from + page }
+{
+    let _segments = limits.segments;
+    TAGS + page as usize
+}
+
+/// Where a bitmap word of the subsegment that begins at a page is.
+pub fn bitmap_at(limits: &Limits, page: u32, word: u32) -> usize
+    requires limits { AreValid limits.now }
+    requires page { page < 256 * limits.now.segments }
+    requires word { word < 4 }
+    ensures { result ≡ (bitmaps_region limits.now).from + 4 * page + word }
+{
+    TAGS + SEGMENT_PAGES * limits.segments as usize + PAGE_BITMAPS * page as usize + word as usize
+}
+
+/// Where the size word of a granule is.
+pub fn size_at(limits: &Limits, granule: u32) -> usize
+    requires limits { AreValid limits.now }
+    requires granule { granule < 65536 * limits.now.segments }
+    ensures { result ≡ (sizes_region limits.now).from + granule }
+{
+    TAGS + SEGMENT_PAGES * (1 + PAGE_BITMAPS) * limits.segments as usize + granule as usize
+}
+
+/// Where the data words begin.
+pub fn data_from(limits: &Limits) -> usize
+    requires { AreValid limits.now }
+    ensures { result ≡ (data_region limits.now).from }
+{
+    let segments = limits.segments as usize;
+    TAGS + SEGMENT_PAGES * (1 + PAGE_BITMAPS) * segments + SEGMENT_GRANULES * segments
+}
