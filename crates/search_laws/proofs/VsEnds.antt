@@ -1,32 +1,28 @@
 -- Where a bucket cannot be served, its call goes to the variable-size layer, or is refused.
 use Rattle.std.proofs.Common.{◌≡◌, ℕ, ◌+◌, ◌*◌, ◌-◌, ◌/◌, ◌<◌, ◌≤◌, Bool, true, false, List, [], ◌∷◌, ◌++◌, Option, Some, None, refl, sym, ap, ◌∙◌, arith, eqb, ◌⊎◌, inl, inr}
-use Rattle.std.specs.List.{find, list_any, list_all}
-use Rattle.std.proofs.lemmas.Bool.{lt-ltb, le-leb, eq-eqb, or_left, or_right}
+use Rattle.std.proofs.lemmas.Bool.{lt-ltb, le-leb, eq-eqb, or_right}
 use Rattle.heap_model.specs.declared.Call.{Call}
 use Rattle.heap_model.specs.declared.Call.TheVariants as calls
 use Rattle.heap_model.specs.declared.Act.TheVariants as acts
 use Rattle.heap_model.specs.declared.Reply.TheVariants as replies
 use Rattle.heap_model.specs.declared.Kind.TheVariants as kinds
-use Rattle.heap_model.specs.declared.Layer.{Layer}
 use Rattle.heap_model.specs.declared.Layer.TheVariants as layers
 use Rattle.heap_model.specs.declared.What.TheVariants as whats
 use Rattle.heap_model.specs.Geometry.{units_of, span_pages_of}
 use Rattle.heap_model.specs.Buckets.{bucket_of, bucket_pages}
 use Rattle.heap_model.specs.Runs.{Run}
-use Rattle.heap_model.specs.State.{Setting, BackPart, VsPart, Span, Place, Live, InHand, Locks, has_address, in_hand, is_hand_at, insert_span, change_found}
+use Rattle.heap_model.specs.State.{Setting, BackPart, VsPart, Place, Locks, in_hand, insert_span}
 use Rattle.heap_model.specs.Backend.{back_place}
-use Rattle.heap_model.specs.Ranges.{is_of_kind, gaps_of, vs_spans, vs_place}
+use Rattle.heap_model.specs.Ranges.{gaps_of, vs_spans, vs_place}
 use Rattle.heap_model.specs.CallState.{Configuration, CallState, Search, SpanHistory, Nothing, caller_view}
 use Rattle.heap_model.specs.Search.{SearchKey, draw_of, is_spent}
-use Rattle.heap_model.specs.Legal.{after, lies_in, has_place, are_used, is_empty, with_status, with_span, on, layer_of, serve, suits}
+use Rattle.heap_model.specs.Legal.{after, are_used, is_empty, with_span, serve, suits}
 use Rattle.heap_model.specs.Alone.{by_zero}
-use Rattle.heap_model.proofs.ListLemmas.{filter-insert_span}
 use Rattle.serial_laws.specs.BackCalls.{plain}
 use Rattle.serial_laws.specs.VsCalls.{vs_block, vs_span_for}
-use Rattle.serial_laws.proofs.Places.{all_inserted, all_weaker}
 use Rattle.serial_laws.proofs.NewSpan.{lies_in_new_span}
-use Rattle.serial_laws.proofs.VsAllocate.{count_is}
-use Rattle.serial_laws.proofs.Allocate.{come, four_parts}
+use Rattle.serial_laws.proofs.VsAllocate.{count_is, found, vs_after, others, leaves, used_again, used_with, whole_again, whole_with}
+use Rattle.serial_laws.proofs.Allocate.{come}
 use Rattle.search_laws.specs.Falls.{OnlySmall, vs_with}
 use Rattle.search_laws.proofs.Words.{key}
 use Rattle.search_laws.proofs.Blocks.{bucket_fits}
@@ -43,7 +39,7 @@ fallen n q f = record { call = Some (calls.Alloc n plain); entered = true; place
 abbrev pub both_locked : Locks
 both_locked = record { lfh = None; vs = Some 0; back = Some 0; large = None }
 
----- The place that is made, and given
+---- The place that is given
 
 -- a small block may be there
 suits_it : (n : ℕ) (r : Run) → n ≤ 16368 → (r.count ≡ units_of n) ⊎ (r.count ≡ units_of n + 1) → suits n (vs_block r n) ≡ true
@@ -57,61 +53,6 @@ suits_it n r h (inr e) =
     let b = le-leb n 131072 (omega arith) in
     let d = eq-eqb r.count (units_of n + 1) e in
     rw (a, b, d) (or_right (eqb r.count (units_of n)) true refl)
-
-module _ (lfh vs back large : List Place) (r : Run) (n : ℕ) (none : in_hand 0 lfh ++ in_hand 0 vs ++ in_hand 0 back ++ in_hand 0 large ≡ []) where
-  abbrev made : Place
-  made = record { start = 16 * r.first; granules = r.count; layer = layers.Vs; status = InHand 0 }
-
-  abbrev give : List Place → List Place
-  give ps = change_found (is_hand_at 0 (16 * r.first + 16)) (with_status (Live n)) ps
-
-  -- the place in hand at the Give
-  abbrev hand : Option Place
-  hand = find (has_address (16 * r.first + 16)) (in_hand 0 lfh ++ in_hand 0 (made ∷ vs) ++ in_hand 0 back ++ in_hand 0 large)
-
-  found : hand ≡ Some made
-  found =
-      let a = (four_parts lfh vs back large none).0 in
-      let f = eq-eqb (16 * r.first + 16) (16 * r.first + 16) refl in
-      rw (a, f) refl
-
-  vs_after : on layers.Vs give (made ∷ vs) (layer_of hand) ≡ vs_block r n ∷ vs
-  vs_after = ap (λ (o : Option Place). on layers.Vs give (made ∷ vs) (layer_of o)) found ∙ changed
-    where
-      changed : give (made ∷ vs) ≡ vs_block r n ∷ vs
-      changed = let f = eq-eqb (16 * r.first + 16) (16 * r.first + 16) refl in rw f refl
-
-  -- the places of another layer are as before
-  others : (l : Layer) (ps : List Place) → on l give ps (Some layers.Vs) ≡ ps → on l give ps (layer_of hand) ≡ ps
-  others l ps h = ap (λ (o : Option Place). on l give ps (layer_of o)) found ∙ h
-
-  leaves : in_hand 0 (on layers.Lfh give lfh (layer_of hand)) ++ in_hand 0 (on layers.Vs give (made ∷ vs) (layer_of hand)) ++ in_hand 0 (on layers.Back give back (layer_of hand)) ++ in_hand 0 (on layers.Large give large (layer_of hand)) ≡ []
-  leaves =
-      ap (λ (ps : List Place). in_hand 0 (on layers.Lfh give lfh (layer_of hand)) ++ in_hand 0 ps ++ in_hand 0 (on layers.Back give back (layer_of hand)) ++ in_hand 0 (on layers.Large give large (layer_of hand))) vs_after
-      ∙ ap (λ (o : Option Place). in_hand 0 (on layers.Lfh give lfh (layer_of o)) ++ in_hand 0 vs ++ in_hand 0 (on layers.Back give back (layer_of o)) ++ in_hand 0 (on layers.Large give large (layer_of o))) found
-      ∙ none
-
-  -- each span of this layer has a place, as one more place changes nothing ..
-  used_again : (xs : List Span) → are_used 4096 kinds.Vs vs xs ≡ true → are_used 4096 kinds.Vs (on layers.Vs give (made ∷ vs) (layer_of hand)) xs ≡ true
-  used_again xs h =
-      ap (λ (ps : List Place). are_used 4096 kinds.Vs ps xs) vs_after
-      ∙ all_weaker (is_of_kind kinds.Vs) (has_place 4096 vs) (has_place 4096 (vs_block r n ∷ vs)) xs (λ y w. or_right (lies_in 4096 y (vs_block r n)) (list_any (lies_in 4096 y) vs) w) h
-
-  -- .. and it is in the span that is made for it
-  used_with : (x : Span) (xs : List Span) → lies_in 4096 x (vs_block r n) ≡ true → are_used 4096 kinds.Vs vs xs ≡ true → are_used 4096 kinds.Vs (on layers.Vs give (made ∷ vs) (layer_of hand)) (insert_span x xs) ≡ true
-  used_with x xs i h =
-      ap (λ (ps : List Place). are_used 4096 kinds.Vs ps (insert_span x xs)) vs_after
-      ∙ all_inserted (is_of_kind kinds.Vs) (has_place 4096 vs) (has_place 4096 (vs_block r n ∷ vs)) x xs
-      (or_left (lies_in 4096 x (vs_block r n)) (list_any (lies_in 4096 x) vs) i)
-      (λ y w. or_right (lies_in 4096 y (vs_block r n)) (list_any (lies_in 4096 y) vs) w) h
-
-  -- the spans of the back end keep their places
-  whole_again : (xs : List Span) → are_used 4096 kinds.Back back xs ≡ true → are_used 4096 kinds.Back (on layers.Back give back (layer_of hand)) xs ≡ true
-  whole_again xs h = ap (λ (ps : List Place). are_used 4096 kinds.Back ps xs) (others layers.Back back refl) ∙ h
-
--- a span of the other kind changes nothing for them
-whole_with : (back : List Place) (first n : ℕ) (xs : List Span) → are_used 4096 kinds.Back back xs ≡ true → are_used 4096 kinds.Back back (insert_span (vs_span_for first n) xs) ≡ true
-whole_with back first n xs h = ap (λ (ys : List Span). list_all (has_place 4096 back) ys) (filter-insert_span (is_of_kind kinds.Back) (vs_span_for first n) xs refl) ∙ h
 
 ---- The acts
 

@@ -45,7 +45,7 @@ paged_above n h = elim (cases_Bool (leb n 16368)) [
 pub begins : (s : Setting) (hs : List Place) → 0 < s.limits.callers → hs ≡ [] → (ltb 0 s.limits.callers && true && true && is_empty hs) ≡ true
 begins s hs l h = let k = lt-ltb 0 s.limits.callers l in rw (k, h) refl
 
-spans : (s : Setting) (area : Area) (first n : ℕ) → is_paged (route_of n) ≡ true → back_place area s.limits.segments (pages_of n) ≡ Some first → first / 256 < area.reserved →
+pub spans : (s : Setting) (area : Area) (first n : ℕ) → is_paged (route_of n) ≡ true → back_place area s.limits.segments (pages_of n) ≡ Some first → first / 256 < area.reserved →
     (is_some_of (back_place area s.limits.segments (pages_of n)) first && ltb (first / 256) area.reserved && true && (is_paged (route_of n) && eqb (pages_of n) (pages_of n))) ≡ true
 spans s area first n p f l =
     let a = eq-eqb first first refl in
@@ -53,14 +53,14 @@ spans s area first n p f l =
     let d = eq-eqb (pages_of n) (pages_of n) refl in
     rw (f, a, b, p, d) refl
 
-places_it : (first n : ℕ) → (leb (4096 * first) (4096 * first) && leb (4096 * first + 16 * (256 * pages_of n)) (4096 * (first + pages_of n)) && eqb (256 * pages_of n) (256 * pages_of n) && true && true) ≡ true
+pub places_it : (first n : ℕ) → (leb (4096 * first) (4096 * first) && leb (4096 * first + 16 * (256 * pages_of n)) (4096 * (first + pages_of n)) && eqb (256 * pages_of n) (256 * pages_of n) && true && true) ≡ true
 places_it first n =
     let a = le-leb (4096 * first) (4096 * first) (omega arith) in
     let b = le-leb (4096 * first + 16 * (256 * pages_of n)) (4096 * (first + pages_of n)) (omega arith) in
     let d = eq-eqb (256 * pages_of n) (256 * pages_of n) refl in
     rw (a, b, d) refl
 
-gives : (n : ℕ) → is_paged (route_of n) ≡ true → (leb n (16 * (256 * pages_of n)) && (is_paged (route_of n) && eqb (256 * pages_of n) (256 * pages_of n))) ≡ true
+pub gives : (n : ℕ) → is_paged (route_of n) ≡ true → (leb n (16 * (256 * pages_of n)) && (is_paged (route_of n) && eqb (256 * pages_of n) (256 * pages_of n))) ≡ true
 gives n p =
     let a = le-leb n (16 * (256 * pages_of n)) (omega arith) in
     let d = eq-eqb (256 * pages_of n) (256 * pages_of n) refl in
@@ -98,7 +98,7 @@ module _ (lfh vs back large : List Place) (first n : ℕ) (none : in_hand 0 lfh 
   abbrev hand : Option Place
   hand = find (has_address (4096 * first)) (in_hand 0 lfh ++ in_hand 0 vs ++ in_hand 0 (made ∷ back) ++ in_hand 0 large)
 
-  found : hand ≡ Some made
+  pub found : hand ≡ Some made
   found =
       let four = four_parts lfh vs back large none in
       let a = four.0 in let b = four.1 in let d = four.2 in let e = four.3 in
@@ -115,13 +115,13 @@ module _ (lfh vs back large : List Place) (first n : ℕ) (none : in_hand 0 lfh 
   others : (l : Layer) (ps : List Place) → on l give ps (Some layers.Back) ≡ ps → on l give ps (layer_of hand) ≡ ps
   others l ps h = ap (λ (o : Option Place). on l give ps (layer_of o)) found ∙ h
 
-  leaves : in_hand 0 (on layers.Lfh give lfh (layer_of hand)) ++ in_hand 0 (on layers.Vs give vs (layer_of hand)) ++ in_hand 0 (on layers.Back give (made ∷ back) (layer_of hand)) ++ in_hand 0 (on layers.Large give large (layer_of hand)) ≡ []
+  pub leaves : in_hand 0 (on layers.Lfh give lfh (layer_of hand)) ++ in_hand 0 (on layers.Vs give vs (layer_of hand)) ++ in_hand 0 (on layers.Back give (made ∷ back) (layer_of hand)) ++ in_hand 0 (on layers.Large give large (layer_of hand)) ≡ []
   leaves =
       ap (λ (ps : List Place). in_hand 0 (on layers.Lfh give lfh (layer_of hand)) ++ in_hand 0 (on layers.Vs give vs (layer_of hand)) ++ in_hand 0 ps ++ in_hand 0 (on layers.Large give large (layer_of hand))) back_after
       ∙ ap (λ (o : Option Place). in_hand 0 (on layers.Lfh give lfh (layer_of o)) ++ in_hand 0 (on layers.Vs give vs (layer_of o)) ++ in_hand 0 back ++ in_hand 0 (on layers.Large give large (layer_of o))) found
       ∙ none
 
-  whole_again : (xs : List Span) → are_used 4096 kinds.Back back xs ≡ true →
+  pub whole_again : (xs : List Span) → are_used 4096 kinds.Back back xs ≡ true →
       are_used 4096 kinds.Back (on layers.Back give (made ∷ back) (layer_of hand)) (insert_span (block_span first n) xs) ≡ true
   whole_again xs h =
       let x = block_span first n in

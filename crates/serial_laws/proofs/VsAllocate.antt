@@ -146,36 +146,36 @@ module _ (lfh vs back large : List Place) (r : Run) (n : ℕ) (none : in_hand 0 
   abbrev hand : Option Place
   hand = find (has_address (16 * r.first + 16)) (in_hand 0 lfh ++ in_hand 0 (made ∷ vs) ++ in_hand 0 back ++ in_hand 0 large)
 
-  found : hand ≡ Some made
+  pub found : hand ≡ Some made
   found =
       let a = (four_parts lfh vs back large none).0 in
       let f = eq-eqb (16 * r.first + 16) (16 * r.first + 16) refl in
       rw (a, f) refl
 
-  vs_after : on layers.Vs give (made ∷ vs) (layer_of hand) ≡ vs_block r n ∷ vs
+  pub vs_after : on layers.Vs give (made ∷ vs) (layer_of hand) ≡ vs_block r n ∷ vs
   vs_after = ap (λ (o : Option Place). on layers.Vs give (made ∷ vs) (layer_of o)) found ∙ changed
     where
       changed : give (made ∷ vs) ≡ vs_block r n ∷ vs
       changed = let f = eq-eqb (16 * r.first + 16) (16 * r.first + 16) refl in rw f refl
 
   -- the places of another layer are as before
-  others : (l : Layer) (ps : List Place) → on l give ps (Some layers.Vs) ≡ ps → on l give ps (layer_of hand) ≡ ps
+  pub others : (l : Layer) (ps : List Place) → on l give ps (Some layers.Vs) ≡ ps → on l give ps (layer_of hand) ≡ ps
   others l ps h = ap (λ (o : Option Place). on l give ps (layer_of o)) found ∙ h
 
-  leaves : in_hand 0 (on layers.Lfh give lfh (layer_of hand)) ++ in_hand 0 (on layers.Vs give (made ∷ vs) (layer_of hand)) ++ in_hand 0 (on layers.Back give back (layer_of hand)) ++ in_hand 0 (on layers.Large give large (layer_of hand)) ≡ []
+  pub leaves : in_hand 0 (on layers.Lfh give lfh (layer_of hand)) ++ in_hand 0 (on layers.Vs give (made ∷ vs) (layer_of hand)) ++ in_hand 0 (on layers.Back give back (layer_of hand)) ++ in_hand 0 (on layers.Large give large (layer_of hand)) ≡ []
   leaves =
       ap (λ (ps : List Place). in_hand 0 (on layers.Lfh give lfh (layer_of hand)) ++ in_hand 0 ps ++ in_hand 0 (on layers.Back give back (layer_of hand)) ++ in_hand 0 (on layers.Large give large (layer_of hand))) vs_after
       ∙ ap (λ (o : Option Place). in_hand 0 (on layers.Lfh give lfh (layer_of o)) ++ in_hand 0 vs ++ in_hand 0 (on layers.Back give back (layer_of o)) ++ in_hand 0 (on layers.Large give large (layer_of o))) found
       ∙ none
 
   -- each span of this layer has a place, as one more place changes nothing ..
-  used_again : (xs : List Span) → are_used 4096 kinds.Vs vs xs ≡ true → are_used 4096 kinds.Vs (on layers.Vs give (made ∷ vs) (layer_of hand)) xs ≡ true
+  pub used_again : (xs : List Span) → are_used 4096 kinds.Vs vs xs ≡ true → are_used 4096 kinds.Vs (on layers.Vs give (made ∷ vs) (layer_of hand)) xs ≡ true
   used_again xs h =
       ap (λ (ps : List Place). are_used 4096 kinds.Vs ps xs) vs_after
       ∙ all_weaker (is_of_kind kinds.Vs) (has_place 4096 vs) (has_place 4096 (vs_block r n ∷ vs)) xs (λ y w. or_right (lies_in 4096 y (vs_block r n)) (list_any (lies_in 4096 y) vs) w) h
 
   -- .. and it is in the span that is made for it
-  used_with : (x : Span) (xs : List Span) → lies_in 4096 x (vs_block r n) ≡ true → are_used 4096 kinds.Vs vs xs ≡ true → are_used 4096 kinds.Vs (on layers.Vs give (made ∷ vs) (layer_of hand)) (insert_span x xs) ≡ true
+  pub used_with : (x : Span) (xs : List Span) → lies_in 4096 x (vs_block r n) ≡ true → are_used 4096 kinds.Vs vs xs ≡ true → are_used 4096 kinds.Vs (on layers.Vs give (made ∷ vs) (layer_of hand)) (insert_span x xs) ≡ true
   used_with x xs i h =
       ap (λ (ps : List Place). are_used 4096 kinds.Vs ps (insert_span x xs)) vs_after
       ∙ all_inserted (is_of_kind kinds.Vs) (has_place 4096 vs) (has_place 4096 (vs_block r n ∷ vs)) x xs
@@ -183,11 +183,11 @@ module _ (lfh vs back large : List Place) (r : Run) (n : ℕ) (none : in_hand 0 
       (λ y w. or_right (lies_in 4096 y (vs_block r n)) (list_any (lies_in 4096 y) vs) w) h
 
   -- the spans of the back end keep their places
-  whole_again : (xs : List Span) → are_used 4096 kinds.Back back xs ≡ true → are_used 4096 kinds.Back (on layers.Back give back (layer_of hand)) xs ≡ true
+  pub whole_again : (xs : List Span) → are_used 4096 kinds.Back back xs ≡ true → are_used 4096 kinds.Back (on layers.Back give back (layer_of hand)) xs ≡ true
   whole_again xs h = ap (λ (ps : List Place). are_used 4096 kinds.Back ps xs) (others layers.Back back refl) ∙ h
 
 -- a span of the other kind changes nothing for them
-whole_with : (back : List Place) (first n : ℕ) (xs : List Span) → are_used 4096 kinds.Back back xs ≡ true → are_used 4096 kinds.Back back (insert_span (vs_span_for first n) xs) ≡ true
+pub whole_with : (back : List Place) (first n : ℕ) (xs : List Span) → are_used 4096 kinds.Back back xs ≡ true → are_used 4096 kinds.Back back (insert_span (vs_span_for first n) xs) ≡ true
 whole_with back first n xs h = ap (λ (ys : List Span). list_all (has_place 4096 back) ys) (filter-insert_span (is_of_kind kinds.Back) (vs_span_for first n) xs refl) ∙ h
 
 ---- The calls

@@ -1,84 +1,15 @@
-use Rattle.std.proofs.Common.{◌≡◌, ℕ, ◌+◌, ◌*◌, ◌/◌, ◌<◌, true, ◌&&◌, List, [], ◌∷◌, ◌++◌, Option, Some, refl, ap, ◌∙◌, arith, eqb, leb, ltb}
-use Rattle.std.specs.List.{find, list_any}
-use Rattle.std.proofs.lemmas.Bool.{and_from, lt-ltb, le-leb, eq-eqb, or_left, or_right}
+use Rattle.std.proofs.Common.{◌*◌, [], ◌∷◌, refl, ap, ◌∙◌}
 use Rattle.heap_model.specs.declared.Call.TheVariants as calls
 use Rattle.heap_model.specs.declared.Act.TheVariants as acts
 use Rattle.heap_model.specs.declared.Kind.TheVariants as kinds
 use Rattle.heap_model.specs.declared.Layer.TheVariants as layers
 use Rattle.heap_model.specs.declared.What.TheVariants as whats
-use Rattle.heap_model.specs.Geometry.{pages_of, route_of, is_paged}
-use Rattle.heap_model.specs.State.{Setting, Area, Span, Place, Live, InHand, has_address, in_hand, is_hand_at, insert_span, change_found}
-use Rattle.heap_model.specs.Backend.{back_place}
-use Rattle.heap_model.specs.Ranges.{is_of_kind}
-use Rattle.heap_model.specs.Stay.{is_some_of}
-use Rattle.heap_model.specs.Legal.{after, lies_in, has_place, are_used, is_empty, with_status, on, layer_of}
+use Rattle.heap_model.specs.Geometry.{pages_of}
+use Rattle.heap_model.specs.Legal.{after, is_empty}
 use Rattle.heap_model.specs.Alone.{at_rest, by_zero}
-use Rattle.serial_laws.specs.BackCalls.{block_span, block_place}
-use Rattle.serial_laws.proofs.Places.{all_inserted}
 use Rattle.serial_laws.proofs.Turns.{come_follow}
-use Rattle.serial_laws.proofs.Allocate.{come, begins, four_parts}
+use Rattle.serial_laws.proofs.Allocate.{come, begins, spans, places_it, gives, found, leaves, whole_again}
 use Rattle.heap_laws.proofs.laws.allocation_is_legal.Goals as goal
-
-spans : (s : Setting) (area : Area) (first n : ℕ) → is_paged (route_of n) ≡ true → back_place area s.limits.segments (pages_of n) ≡ Some first → first / 256 < area.reserved →
-    (is_some_of (back_place area s.limits.segments (pages_of n)) first && ltb (first / 256) area.reserved && true && (is_paged (route_of n) && eqb (pages_of n) (pages_of n))) ≡ true
-spans s area first n p f l =
-    let a = eq-eqb first first refl in
-    let b = lt-ltb (first / 256) area.reserved l in
-    let d = eq-eqb (pages_of n) (pages_of n) refl in
-    rw (f, a, b, p, d) refl
-
-places_it : (first n : ℕ) → (leb (4096 * first) (4096 * first) && leb (4096 * first + 16 * (256 * pages_of n)) (4096 * (first + pages_of n)) && eqb (256 * pages_of n) (256 * pages_of n) && true && true) ≡ true
-places_it first n =
-    let a = le-leb (4096 * first) (4096 * first) (omega arith) in
-    let b = le-leb (4096 * first + 16 * (256 * pages_of n)) (4096 * (first + pages_of n)) (omega arith) in
-    let d = eq-eqb (256 * pages_of n) (256 * pages_of n) refl in
-    rw (a, b, d) refl
-
-gives : (n : ℕ) → is_paged (route_of n) ≡ true → (leb n (16 * (256 * pages_of n)) && (is_paged (route_of n) && eqb (256 * pages_of n) (256 * pages_of n))) ≡ true
-gives n p =
-    let a = le-leb n (16 * (256 * pages_of n)) (omega arith) in
-    let d = eq-eqb (256 * pages_of n) (256 * pages_of n) refl in
-    rw (a, p, d) refl
-
-module _ (lfh vs back large : List Place) (first n : ℕ) (none : in_hand 0 lfh ++ in_hand 0 vs ++ in_hand 0 back ++ in_hand 0 large ≡ []) where
-  abbrev made : Place
-  made = record { start = 4096 * first; granules = 256 * pages_of n; layer = layers.Back; status = InHand 0 }
-
-  abbrev give : List Place → List Place
-  give ps = change_found (is_hand_at 0 (4096 * first)) (with_status (Live n)) ps
-
-  -- the place in hand at the Give
-  abbrev hand : Option Place
-  hand = find (has_address (4096 * first)) (in_hand 0 lfh ++ in_hand 0 vs ++ in_hand 0 (made ∷ back) ++ in_hand 0 large)
-
-  found : hand ≡ Some made
-  found =
-      let four = four_parts lfh vs back large none in
-      let a = four.0 in let b = four.1 in let d = four.2 in let e = four.3 in
-      let f = eq-eqb (4096 * first) (4096 * first) refl in
-      rw (a, b, d, e, f) refl
-
-  back_after : on layers.Back give (made ∷ back) (layer_of hand) ≡ block_place first n ∷ back
-  back_after = ap (λ (o : Option Place). on layers.Back give (made ∷ back) (layer_of o)) found ∙ changed
-    where
-      changed : give (made ∷ back) ≡ block_place first n ∷ back
-      changed = let f = eq-eqb (4096 * first) (4096 * first) refl in rw f refl
-
-  leaves : in_hand 0 (on layers.Lfh give lfh (layer_of hand)) ++ in_hand 0 (on layers.Vs give vs (layer_of hand)) ++ in_hand 0 (on layers.Back give (made ∷ back) (layer_of hand)) ++ in_hand 0 (on layers.Large give large (layer_of hand)) ≡ []
-  leaves =
-      ap (λ (ps : List Place). in_hand 0 (on layers.Lfh give lfh (layer_of hand)) ++ in_hand 0 (on layers.Vs give vs (layer_of hand)) ++ in_hand 0 ps ++ in_hand 0 (on layers.Large give large (layer_of hand))) back_after
-      ∙ ap (λ (o : Option Place). in_hand 0 (on layers.Lfh give lfh (layer_of o)) ++ in_hand 0 (on layers.Vs give vs (layer_of o)) ++ in_hand 0 back ++ in_hand 0 (on layers.Large give large (layer_of o))) found
-      ∙ none
-
-  whole_again : (xs : List Span) → are_used 4096 kinds.Back back xs ≡ true →
-      are_used 4096 kinds.Back (on layers.Back give (made ∷ back) (layer_of hand)) (insert_span (block_span first n) xs) ≡ true
-  whole_again xs h =
-      let x = block_span first n in
-      let given = block_place first n in
-      ap (λ (ps : List Place). are_used 4096 kinds.Back ps (insert_span x xs)) back_after
-      ∙ all_inserted (is_of_kind kinds.Back) (has_place 4096 back) (has_place 4096 (given ∷ back)) x xs
-      (or_left (lies_in 4096 x given) (list_any (lies_in 4096 x) back) (and_from (leb (4096 * first) (4096 * first)) (leb (4096 * first + 16 * (256 * pages_of n)) (4096 * (first + pages_of n))) (le-leb _ _ (omega arith)) (le-leb _ _ (omega arith))))
-      (λ y w. or_right (lies_in 4096 y given) (list_any (lies_in 4096 y) back) w) h
 
 pub returns : goal.returns
 returns c = λ s back vs lfh large words states disturbed span_history n flags first room paged empty whole fits low.
