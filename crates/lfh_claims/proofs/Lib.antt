@@ -1,0 +1,14 @@
+pub mod Regions
+pub mod Starts
+pub mod Bits
+pub mod Seats
+pub mod Calls
+pub mod Drops
+pub mod Puts
+pub mod Scans
+pub mod Passes
+pub mod Subsegments
+pub mod Made
+pub mod Hints
+pub mod Takings
+pub mod OneHeap

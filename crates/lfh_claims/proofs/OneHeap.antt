@@ -1,0 +1,43 @@
+-- A front end and a back end of one heap stay so.
+use Rattle.std.proofs.Common.{◌≡◌, ℕ, false, [], Option, Some, None, refl, sym, ap, subst, ◌∙◌}
+use Rattle.std.specs.Prelude.{option_and_then}
+use Rattle.std.specs.List.{find}
+use Rattle.heap_model.specs.Search.{SearchKey}
+use Rattle.heap_model.specs.State.{Place, has_address, live_size}
+use Rattle.backend_fit.specs.Kept.{Kept, area_of}
+use Rattle.claim_rule.specs.Shown.{lfh_spans}
+use Rattle.lfh_claims.specs.Kept.{LfhKept, LfhPart, StandsFor, HasBlock, no_part, size_at, without_block}
+use Rattle.lfh_claims.specs.Takes.{StandsIn, AreOfOneHeap, TakesOrNot, Takes, AtHint, InPass, NewSpan}
+
+pub opened_together : (k : LfhKept) (b : Kept) → StandsFor k no_part → area_of b ≡ record { reserved = 0; committed = λ _. false; spans = [] } → b.region.segments ≡ k.limits.segments → AreOfOneHeap k b
+opened_together k b h area segments = record { part = no_part; stands = record { stands = h; spans = sym (ap lfh_spans area) }; segments = segments }
+
+module _ (old new : LfhKept) (before after : Kept) (g : SearchKey) (size : ℕ) (limits : new.limits ≡ old.limits) (h : AreOfOneHeap old before) where
+  segments_are : after.region.segments ≡ before.region.segments → after.region.segments ≡ new.limits.segments
+  segments_are e = e ∙ h.segments ∙ sym (ap (λ l. l.segments) limits)
+
+  still : (t : LfhPart) → StandsIn new (area_of after) t → after.region.segments ≡ before.region.segments → AreOfOneHeap new after
+  still t s e = record { part = t; stands = s; segments = segments_are e }
+
+  taken : (addr : ℕ) → Takes old new before after h.part g size addr → AreOfOneHeap new after
+  taken addr (AtHint f r) = still _ r.stands (ap (λ k. k.region.segments) r.back)
+  taken addr (InPass f r) = still _ r.stands (ap (λ k. k.region.segments) r.back)
+  taken addr (NewSpan first r) = still r.part r.stands r.segments
+
+  pub after_place : (o : Option ℕ) → TakesOrNot old new before after h.part g size o → AreOfOneHeap new after
+  after_place (Some addr) r = taken addr r
+  after_place None r = still h.part (subst (λ k. StandsIn k (area_of after) h.part) (sym r.same) (subst (λ b. StandsIn old (area_of b) h.part) (sym r.back) h.stands)) (ap (λ k. k.region.segments) r.back)
+
+pub block_there : (k : LfhKept) (b : Kept) (addr : ℕ) (o : Option ℕ) → AreOfOneHeap k b → ((t : LfhPart) → StandsFor k t → o ≡ size_at t.places addr) → (o ≡ None → ⊥) → HasBlock k addr
+block_there k b addr o h found some = by_place (find (has_address addr) h.part.places) refl
+  where
+    by_place : (p : Option Place) → find (has_address addr) h.part.places ≡ p → HasBlock k addr
+    by_place None e = absurd (some (found h.part h.stands.stands ∙ ap (option_and_then (λ p. live_size p.status)) e))
+    by_place (Some p) e = record { part = h.part; stands = h.stands.stands; place = p; there = e }
+
+pub after_drop : (old new : LfhKept) (b : Kept) (addr : ℕ) → AreOfOneHeap old b → ((t : LfhPart) → StandsFor old t → StandsFor new (without_block t addr)) → new.limits ≡ old.limits → AreOfOneHeap new b
+after_drop old new b addr h drops limits = record {
+  part = without_block h.part addr;
+  stands = record { stands = drops h.part h.stands.stands; spans = h.stands.spans };
+  segments = h.segments ∙ sym (ap (λ l. l.segments) limits);
+}

@@ -1,0 +1,6 @@
+use Rattle.std.proofs.Common.{sym, ap, ◌∙◌}
+use Rattle.lfh_claims.proofs.OneHeap.{opened_together}
+use Rattle.lfh_claims.proofs.tests.opened.Goals as goal
+
+pub returns : goal.returns
+returns c = opened_together c.in_ok-lfh.lfh c.in_ok-back.back c.in_ok-lfh.ensures.stands c.in_ok-back.ensures.area (c.in_ok-back.ensures.segments ∙ sym (ap (λ l. l.segments) c.in_ok-lfh.ensures.limits))
