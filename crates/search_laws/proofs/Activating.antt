@@ -95,11 +95,11 @@ module _ (s : Setting) (back : BackPart) (vs : VsPart) (lfh large : List Place) 
   abbrev old : Configuration
   old = at_rest back now lfh large words states disturbed history
 
-  as_small : (reply : Reply) (area : Area) (places : List Place) (hints : ℕ → ℕ → Option ℕ) → EndsFrom s old m5 call reply area places hints → EndsSmall s start call reply area now places hints
+  as_small : (reply : Reply) (area : Area) (places : List Place) (hints : ℕ → ℕ → Option ℕ) → EndsFrom s old m5 call reply area places hints (q + 1) → EndsSmall s start call reply area now places hints
   as_small reply area places hints e =
       ends_active reply area now places hints
-      (ends_weaker s call reply (λ k. OnlyLfh old k area places hints) (λ k. OnlySmall start k area now places hints)
-      (λ k o. record { area_is = o.area_is; vs_is = o.vs; lfh_is = o.places_are; hints_are = o.hints_are; back = o.back; large = o.large; words = o.words }) m5 e)
+      (ends_weaker s call reply (λ k. OnlyLfh old k area places hints (q + 1)) (λ k. OnlySmall start k area now places hints)
+      (λ k o. record { area_is = o.area_is; vs_is = o.vs; lfh_is = o.places_are; hints_are = o.hints_are; back = o.back; large = o.large; words = o.words; searches = o.searches_are }) m5 e)
 
   module _ (first : ℕ) (clear : HasNoPlace s start n b first) where
     made_span : back_place back.area s.limits.segments (bucket_pages b) ≡ Some first → first / 256 < back.area.reserved →
@@ -122,18 +122,18 @@ module _ (s : Setting) (back : BackPart) (vs : VsPart) (lfh large : List Place) 
     in_gap : (r : Run) → vs_place (gaps_of (vs_spans back.area) vs.places) (units_of n) ≡ Some r → EndsSmall s start call (replies.Address (16 * r.first + 16)) back.area (vs_with now r n b) lfh history.hints
     in_gap r fits =
         ends_active (replies.Address (16 * r.first + 16)) back.area (vs_with now r n b) lfh history.hints
-        (to_gap s back now lfh large words history n b q to_activate.bucket active to_activate.in_order no_range empty whole used start refl refl refl m4.now.calls m5.now.disturbed (acts.NoHint b (s.slot 0) ∷ []) dry no_block r fits)
+        (to_gap s back now lfh large words history n b q to_activate.bucket active to_activate.in_order no_range empty whole used start refl refl refl refl m4.now.calls m5.now.disturbed (acts.NoHint b (s.slot 0) ∷ []) dry no_block r fits)
 
     in_vs_span : (first : ℕ) (r : Run) → IsInVsSpan s start n first r →
         EndsSmall s start call (replies.Address (16 * r.first + 16)) (with_span back.area (vs_span_for first n)) (vs_with now r n b) lfh history.hints
     in_vs_span first r h =
         ends_active (replies.Address (16 * r.first + 16)) (with_span back.area (vs_span_for first n)) (vs_with now r n b) lfh history.hints
-        (to_span s back now lfh large words history n b q to_activate.bucket active to_activate.in_order no_range empty whole used start refl refl refl m4.now.calls m5.now.disturbed (acts.NoHint b (s.slot 0) ∷ []) dry no_block first r h.none h.place h.fits)
+        (to_span s back now lfh large words history n b q to_activate.bucket active to_activate.in_order no_range empty whole used start refl refl refl refl m4.now.calls m5.now.disturbed (acts.NoHint b (s.slot 0) ∷ []) dry no_block first r h.none h.place h.fits)
 
     refuses : vs_place (gaps_of (vs_spans back.area) vs.places) (units_of n) ≡ None → back_place back.area s.limits.segments (span_pages_of n) ≡ None → EndsSmall s start call replies.NoFit back.area now lfh history.hints
     refuses no_gap no_span =
         ends_active replies.NoFit back.area now lfh history.hints
-        (to_refusal s back now lfh large words history n b q to_activate.bucket active to_activate.in_order no_range empty whole used start refl refl refl m4.now.calls m5.now.disturbed (acts.NoHint b (s.slot 0) ∷ []) dry no_block no_gap no_span)
+        (to_refusal s back now lfh large words history n b q to_activate.bucket active to_activate.in_order no_range empty whole used start refl refl refl refl m4.now.calls m5.now.disturbed (acts.NoHint b (s.slot 0) ∷ []) dry no_block no_gap no_span)
 
 ---- .. from any configuration at rest
 

@@ -1,63 +1,16 @@
 -- The block that a search finds: its number, its place, and that nothing is there.
-use Rattle.std.proofs.Common.{◌≡◌, ℕ, zero, suc, ◌+◌, ◌-◌, ◌*◌, ◌/◌, ◌%◌, ◌^◌, ◌<◌, ◌≤◌, max, Bool, true, false, ◌&&◌, not, List, [], ◌∷◌, Option, Some, None, option_map, refl, sym, ap, subst, ◌∙◌, arith, eqb, leb, ltb, inl, inr, if◌then◌else◌}
+use Rattle.std.proofs.Common.{◌≡◌, ℕ, zero, suc, ◌+◌, ◌-◌, ◌*◌, ◌/◌, ◌%◌, ◌<◌, ◌≤◌, max, Bool, true, false, ◌&&◌, not, List, [], ◌∷◌, Option, Some, None, option_map, refl, sym, ap, subst, ◌∙◌, arith, leb, ltb, inl, inr}
 use Rattle.std.specs.Option.{option_or}
-use Rattle.std.proofs.Math.Nat.{mul-zero, pow-suc, pow-succ', div-div-eq-div-mul, mul-div_cancel}
+use Rattle.std.proofs.Math.Nat.{mul-div_cancel}
 use Rattle.std.proofs.lemmas.Bool.{cases_Bool, and_parts, le-leb, leb-true, leb-false, lt-leb, lt-ltb, not-true, agree_below_at, ltb-true}
 use Rattle.heap_model.specs.Buckets.{bucket_of, block_size, block_count, block_address, valid_bits, words_in_use}
-use Rattle.heap_model.specs.Bits.{starts_at, word_of, is_taken, bits_of, has_bit, first_cyclic, pick}
+use Rattle.heap_model.specs.Bits.{starts_at, is_taken, bits_of, has_bit, first_cyclic, pick}
 use Rattle.heap_model.specs.State.{Span, Place}
 use Rattle.heap_model.specs.Search.{SearchKey}
 use Rattle.heap_soundness.specs.Sound.{IsOneOf}
 use Rattle.heap_soundness.proofs.Picks.{pick_below}
 use Rattle.search_laws.specs.Reading.{Found, found_of, word_behind, picked_at, block_from, block_found, pass_found}
-
----- Bits of a word
-
--- the same number, without the bits below at
-abbrev number : (ℕ → Bool) → ℕ → ℕ → ℕ
-number test at zero = 0
-number test at (suc n) = (if test at then 1 else 0) + 2 * number test (suc at) n
-
-with_lowest : (p k w : ℕ) → w ≡ p * 2 * k → p + w ≡ p * (1 + 2 * k)
-with_lowest p k w e = grind arith
-
-without_lowest : (p k w : ℕ) → w ≡ p * 2 * k → 0 + w ≡ p * (0 + 2 * k)
-without_lowest p k w e = grind arith
-
-word_is : (test : ℕ → Bool) (at n : ℕ) → word_of test at n ≡ 2 ^ at * number test at n
-word_is test at zero = sym (mul-zero (2 ^ at))
-word_is test at (suc n) =
-    let again : word_of test (suc at) n ≡ 2 ^ at * 2 * number test (suc at) n = word_is test (suc at) n ∙ ap (λ (p : ℕ). p * number test (suc at) n) (pow-suc 2 at) in
-    elim (cases_Bool (test at)) [
-      | inl e ↦ rw e (with_lowest (2 ^ at) (number test (suc at) n) (word_of test (suc at) n) again)
-      | inr e ↦ rw e (without_lowest (2 ^ at) (number test (suc at) n) (word_of test (suc at) n) again)
-    ]
-
-bit_here : (test : ℕ → Bool) (at n i : ℕ) → i < n → number test at n / 2 ^ i % 2 ≡ (if test (at + i) then 1 else 0)
-bit_here test at zero i l = absurd (omega arith)
-bit_here test at (suc n) zero l =
-    let e : at + 0 ≡ at = omega arith in
-    rw e (elim (cases_Bool (test at)) [ inl t ↦ rw t (lowest 1 (number test (suc at) n) (omega arith)) | inr t ↦ rw t (lowest 0 (number test (suc at) n) (omega arith)) ])
-  where
-    lowest : (bit k : ℕ) → bit < 2 → (bit + 2 * k) / 1 % 2 ≡ bit
-    lowest bit k l = omega arith
-bit_here test at (suc n) (suc i) l =
-    let e : suc at + i ≡ at + suc i = omega arith in
-    let rest = bit_here test (suc at) n i (omega arith) in
-    let half : number test at (suc n) / 2 ≡ number test (suc at) n = elim (cases_Bool (test at)) [ inl t ↦ rw t (omega arith) | inr t ↦ rw t (omega arith) ] in
-    ap (λ (p : ℕ). number test at (suc n) / p % 2) (pow-succ' 2 i)
-    ∙ ap (λ (q : ℕ). q % 2) (sym (div-div-eq-div-mul (number test at (suc n)) 2 (2 ^ i)))
-    ∙ ap (λ (q : ℕ). q / 2 ^ i % 2) half ∙ rest ∙ ap (λ (j : ℕ). if test j then 1 else 0) e
-
-pub bit_of : (test : ℕ → Bool) (n i : ℕ) → i < n → has_bit (word_of test 0 n) i ≡ test i
-bit_of test n i l =
-    let e : word_of test 0 n ≡ number test 0 n = word_is test 0 n ∙ omega arith in
-    let f : 0 + i ≡ i = omega arith in
-    ap (λ (w : ℕ). has_bit w i) e ∙ ap (λ (q : ℕ). eqb q 1) (bit_here test 0 n i l ∙ ap (λ (j : ℕ). if test j then 1 else 0) f) ∙ as_bit (test i)
-  where
-    as_bit : (t : Bool) → eqb (if t then 1 else 0) 1 ≡ t
-    as_bit true = refl
-    as_bit false = refl
+use Rattle.search_laws.proofs.Bits.{bit_of}
 
 ---- Sizes
 

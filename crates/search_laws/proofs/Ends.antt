@@ -102,12 +102,12 @@ module _ (s : Setting) (call : Call) (reply : Reply) (Left : Configuration → T
   ends_weaker Less f m e = record { rest = e.rest; legal = e.legal; answered = e.answered; idle = e.idle; at_rest = e.at_rest; only = f (configuration_by s m e.rest) e.only }
 
 -- .. and have changed the front end so since another configuration
-abbrev pub EndsFrom : Setting → Configuration → Configuration → Call → Reply → Area → List Place → (ℕ → ℕ → Option ℕ) → Type 0
-EndsFrom s old m call reply area places hints = EndsSo s m call reply (λ n. OnlyLfh old n area places hints)
+abbrev pub EndsFrom : Setting → Configuration → Configuration → Call → Reply → Area → List Place → (ℕ → ℕ → Option ℕ) → ℕ → Type 0
+EndsFrom s old m call reply area places hints searches = EndsSo s m call reply (λ n. OnlyLfh old n area places hints searches)
 
-pub ends_call : (s : Setting) (old : Configuration) (call : Call) (reply : Reply) (area : Area) (places : List Place) (hints : ℕ → ℕ → Option ℕ) → may_follow s old (by_zero (acts.Begin call)) ≡ true →
-    EndsFrom s old (after s old (by_zero (acts.Begin call))) call reply area places hints → EndsLfh s old call reply area places hints
-ends_call s old call reply area places hints l e = record { rest = e.rest; completes = begins_so s call reply (λ n. OnlyLfh old n area places hints) old l e; at_rest = e.at_rest; only = e.only }
+pub ends_call : (s : Setting) (old : Configuration) (call : Call) (reply : Reply) (area : Area) (places : List Place) (hints : ℕ → ℕ → Option ℕ) (searches : ℕ) → may_follow s old (by_zero (acts.Begin call)) ≡ true →
+    EndsFrom s old (after s old (by_zero (acts.Begin call))) call reply area places hints searches → EndsLfh s old call reply area places hints searches
+ends_call s old call reply area places hints searches l e = record { rest = e.rest; completes = begins_so s call reply (λ n. OnlyLfh old n area places hints searches) old l e; at_rest = e.at_rest; only = e.only }
 
 ---- Readings are silent
 

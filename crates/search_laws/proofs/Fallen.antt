@@ -61,20 +61,20 @@ module _ (s : Setting) (back : BackPart) (vs : VsPart) (lfh large : List Place) 
   in_gap r fits =
       let dry = dry_hint s back vs lfh large words states disturbed history n b room empty whole used is_bucket active in_order none.hint in
       ends_entered (replies.Address (16 * r.first + 16)) back.area (vs_with vs r n b)
-      (to_gap s back vs lfh large words history n b q is_bucket active in_order no_range empty whole used start refl refl refl others entered.now.disturbed dry.0 dry.1 none.pass r fits)
+      (to_gap s back vs lfh large words history n b q is_bucket active in_order no_range empty whole used start refl refl refl refl others entered.now.disturbed dry.0 dry.1 none.pass r fits)
 
   in_span : (first : ℕ) (r : Run) → IsInVsSpan s start n first r →
       EndsSmall s start call (replies.Address (16 * r.first + 16)) (with_span back.area (vs_span_for first n)) (vs_with vs r n b) lfh history.hints
   in_span first r h =
       let dry = dry_hint s back vs lfh large words states disturbed history n b room empty whole used is_bucket active in_order none.hint in
       ends_entered (replies.Address (16 * r.first + 16)) (with_span back.area (vs_span_for first n)) (vs_with vs r n b)
-      (to_span s back vs lfh large words history n b q is_bucket active in_order no_range empty whole used start refl refl refl others entered.now.disturbed dry.0 dry.1 none.pass first r h.none h.place h.fits)
+      (to_span s back vs lfh large words history n b q is_bucket active in_order no_range empty whole used start refl refl refl refl others entered.now.disturbed dry.0 dry.1 none.pass first r h.none h.place h.fits)
 
   refuses : vs_place (gaps_of (vs_spans back.area) vs.places) (units_of n) ≡ None → back_place back.area s.limits.segments (span_pages_of n) ≡ None → EndsSmall s start call replies.NoFit back.area vs lfh history.hints
   refuses no_gap no_span =
       let dry = dry_hint s back vs lfh large words states disturbed history n b room empty whole used is_bucket active in_order none.hint in
       ends_entered replies.NoFit back.area vs
-      (to_refusal s back vs lfh large words history n b q is_bucket active in_order no_range empty whole used start refl refl refl others entered.now.disturbed dry.0 dry.1 none.pass no_gap no_span)
+      (to_refusal s back vs lfh large words history n b q is_bucket active in_order no_range empty whole used start refl refl refl refl others entered.now.disturbed dry.0 dry.1 none.pass no_gap no_span)
 
 ---- .. from any configuration at rest
 

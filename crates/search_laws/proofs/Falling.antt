@@ -17,10 +17,11 @@ use Rattle.heap_model.specs.Backend.{back_place}
 use Rattle.heap_model.specs.Ranges.{gaps_of, vs_spans, vs_place}
 use Rattle.heap_model.specs.CallState.{Configuration, CallState, Search, SpanHistory, Nothing, caller_view}
 use Rattle.heap_model.specs.Search.{SearchKey, draw_of, spans_of, is_spent, after_no_span}
-use Rattle.heap_model.specs.Legal.{after, are_used, may_follow, step_search, with_span}
+use Rattle.heap_model.specs.Legal.{after, are_used, may_follow, step_search, with_span, searched_once}
 use Rattle.heap_model.specs.Alone.{by_zero, configuration_by}
 use Rattle.heap_soundness.specs.Sound.{AreInOrder}
 use Rattle.heap_soundness.proofs.MadeSpans.{bucket_is}
+use Rattle.serial_laws.specs.OneCall.{searches_of}
 use Rattle.serial_laws.specs.BackCalls.{plain}
 use Rattle.serial_laws.specs.VsCalls.{vs_span_for}
 use Rattle.search_laws.specs.Reading.{Found, pass_found, pass_reads}
@@ -28,7 +29,7 @@ use Rattle.search_laws.specs.Laws.{search_of, LeadsTo, PassGives}
 use Rattle.search_laws.specs.Falls.{OnlySmall, vs_with}
 use Rattle.search_laws.proofs.Words.{key}
 use Rattle.search_laws.proofs.Searching.{second_pass_is_read}
-use Rattle.search_laws.proofs.Fuller.{is_reserved}
+use Rattle.search_laws.proofs.Fuller.{is_reserved, spent_counts}
 use Rattle.search_laws.proofs.Ends.{as_is, EndsSo, ends_act, ends_acts, pass_silent}
 use Rattle.search_laws.proofs.Placing.{asking, back_locked, inside}
 use Rattle.search_laws.proofs.Within.{IsDry, entered, locked, pass_then}
@@ -50,7 +51,7 @@ module _ (s : Setting) (back : BackPart) (vs : VsPart) (lfh large : List Place) 
   unserved other disturbed f = inside both_locked back vs lfh large words other (fallen n q f) disturbed history Nothing
 
   abbrev IsUnserved : Configuration → Type 0
-  IsUnserved m = is_spent back.area (caller_view m 0) g ≡ true
+  IsUnserved m = (is_spent back.area (caller_view m 0) g ≡ true) × (searched_once (search_of m).stage ≡ 1)
 
   -- from the end of the first pass on
   second : (call : Call) (reply : Reply) (Left : Configuration → Type 0) (other : ℕ → CallState) (disturbed : ℕ → Bool) (f : Search) → pass_found lfh g spans ≡ None →
@@ -62,7 +63,7 @@ module _ (s : Setting) (back : BackPart) (vs : VsPart) (lfh large : List Place) 
       (subst Ends (sym next)
       (ends_act s call reply Left dropped (acts.TakeLock whats.Vs) refl refl
       (ends_acts s call reply Left (pass_reads lfh g spans) taken (pass_silent lfh g spans) r.legal
-      (subst Ends (sym e) (go there.now.calls (search_of there) (subst (PassGives s b None) e r.holds).0)))))
+      (subst Ends (sym e) (go there.now.calls (search_of there) (unserved_there (subst (PassGives s b None) e r.holds)))))))
     where
       Ends : Configuration → Type 0
       Ends m = EndsSo s m call reply Left
@@ -102,8 +103,11 @@ module _ (s : Setting) (back : BackPart) (vs : VsPart) (lfh large : List Place) 
       e : there ≡ unserved there.now.calls disturbed (search_of there)
       e = as_is taken there r.only
 
+      unserved_there : PassGives s b None (unserved there.now.calls disturbed (search_of there)) → IsUnserved (unserved there.now.calls disturbed (search_of there))
+      unserved_there p = (p.0, spent_counts back.area (caller_view (unserved there.now.calls disturbed (search_of there)) 0) g p.0 p.2)
+
   module _ (empty : in_hand 0 lfh ++ in_hand 0 vs.places ++ in_hand 0 back.places ++ in_hand 0 large ≡ []) (whole : are_used 4096 kinds.Back back.places back.area.spans ≡ true) (used : are_used 4096 kinds.Vs vs.places back.area.spans ≡ true)
-      (old : Configuration) (same_places : old.state.back.places ≡ back.places) (same_large : old.state.large ≡ large) (same_words : old.state.words ≡ words)
+      (old : Configuration) (same_places : old.state.back.places ≡ back.places) (same_large : old.state.large ≡ large) (same_words : old.state.words ≡ words) (same_searches : searches_of old ≡ q)
       (other : ℕ → CallState) (disturbed : ℕ → Bool) (rest : List Act) (dry : IsDry s (start other disturbed) rest) (none : pass_found lfh g spans ≡ None) where
     abbrev call : Call
     call = calls.Alloc n plain
@@ -118,7 +122,7 @@ module _ (s : Setting) (back : BackPart) (vs : VsPart) (lfh large : List Place) 
         EndsSo s (start other disturbed) call (replies.Address (16 * r.first + 16)) (λ k. OnlySmall old k back.area (vs_with vs r n b) lfh history.hints)
     to_gap r fits =
         then_vs (replies.Address (16 * r.first + 16)) (λ k. OnlySmall old k back.area (vs_with vs r n b) lfh history.hints) (λ others f spent.
-        gap_ends s back vs lfh large words history n b q is_bucket active empty whole used no_range old same_places same_large same_words others f disturbed spent r fits)
+        gap_ends s back vs lfh large words history n b q is_bucket active empty whole used no_range old same_places same_large same_words same_searches others f disturbed spent.0 spent.1 r fits)
 
     pub to_span : (first : ℕ) (r : Run) → vs_place (gaps_of (vs_spans back.area) vs.places) (units_of n) ≡ None → back_place back.area s.limits.segments (span_pages_of n) ≡ Some first →
         vs_place (gaps_of (vs_spans (with_span back.area (vs_span_for first n))) vs.places) (units_of n) ≡ Some r →
@@ -126,10 +130,10 @@ module _ (s : Setting) (back : BackPart) (vs : VsPart) (lfh large : List Place) 
     to_span first r no_gap there_is fits =
         let reserved = is_reserved back.area s.limits.segments b (span_pages_of n) first (omega arith) no_range there_is in
         then_vs (replies.Address (16 * r.first + 16)) (λ k. OnlySmall old k (with_span back.area (vs_span_for first n)) (vs_with vs r n b) lfh history.hints) (λ others f spent.
-        span_ends s back vs lfh large words history n b q is_bucket active empty whole used no_range old same_places same_large same_words others f disturbed spent first r no_gap there_is reserved fits)
+        span_ends s back vs lfh large words history n b q is_bucket active empty whole used no_range old same_places same_large same_words same_searches others f disturbed spent.0 spent.1 first r no_gap there_is reserved fits)
 
     pub to_refusal : vs_place (gaps_of (vs_spans back.area) vs.places) (units_of n) ≡ None → back_place back.area s.limits.segments (span_pages_of n) ≡ None →
         EndsSo s (start other disturbed) call replies.NoFit (λ k. OnlySmall old k back.area vs lfh history.hints)
     to_refusal no_gap no_span =
         then_vs replies.NoFit (λ k. OnlySmall old k back.area vs lfh history.hints) (λ others f spent.
-        refusal_ends s back vs lfh large words history n b q is_bucket active empty whole used no_range old same_places same_large same_words others f disturbed spent no_gap no_span)
+        refusal_ends s back vs lfh large words history n b q is_bucket active empty whole used no_range old same_places same_large same_words same_searches others f disturbed spent.0 spent.1 no_gap no_span)

@@ -11,7 +11,8 @@ use Rattle.heap_model.specs.State.{Setting, BackPart, VsPart, Place, has_address
 use Rattle.heap_model.specs.CallState.{Configuration, CallState, SpanHistory}
 use Rattle.heap_model.specs.Legal.{after, are_used, is_empty}
 use Rattle.heap_model.specs.Alone.{at_rest, by_zero}
-use Rattle.serial_laws.proofs.Allocate.{come, begins, four_parts}
+use Rattle.serial_laws.specs.OneCall.{searches_of}
+use Rattle.serial_laws.proofs.Allocate.{come, begins, not_searched, four_parts}
 use Rattle.serial_laws.proofs.Found.{find_front, none_left, take, taken, in_hand_after, dropped}
 use Rattle.search_laws.specs.Calls.{EndsLfh, live_lfh, LfhFreeEnds, LfhSizeEnds}
 
@@ -40,7 +41,7 @@ module _ (s : Setting) (back : BackPart) (vs : VsPart) (lfh large : List Place) 
       rw (i, j, l, k, e) refl
 
   frees_it : (a granules size : ℕ) → find (has_address a) lfh ≡ Some (live_lfh a granules size) →
-      EndsLfh s start (calls.Free a) replies.Done back.area (remove_found (has_address a) lfh) history.hints
+      EndsLfh s start (calls.Free a) replies.Done back.area (remove_found (has_address a) lfh) history.hints (searches_of start)
   frees_it a granules size h =
       let m1 = after s start (by_zero (acts.Begin (calls.Free a))) in
       let m2 = after s m1 (by_zero acts.Enter) in
@@ -79,10 +80,11 @@ module _ (s : Setting) (back : BackPart) (vs : VsPart) (lfh large : List Place) 
           vs = rw (found, hand) refl;
           large = rw (found, hand) refl;
           words = refl;
+          searches_are = not_searched (states 0);
         };
       }
 
-  sizes_it : (a granules size : ℕ) → find (has_address a) lfh ≡ Some (live_lfh a granules size) → EndsLfh s start (calls.Size a) (replies.Number size) back.area lfh history.hints
+  sizes_it : (a granules size : ℕ) → find (has_address a) lfh ≡ Some (live_lfh a granules size) → EndsLfh s start (calls.Size a) (replies.Number size) back.area lfh history.hints (searches_of start)
   sizes_it a granules size h =
       let m1 = after s start (by_zero (acts.Begin (calls.Size a))) in
       let m2 = after s m1 (by_zero acts.Enter) in
@@ -102,17 +104,17 @@ module _ (s : Setting) (back : BackPart) (vs : VsPart) (lfh large : List Place) 
           idle = record { outside = refl; holds = refl; hands = empty; demand = refl };
         };
         at_rest = record { rest = refl; hands = empty; whole = whole; used = used };
-        only = record { area_is = refl; places_are = refl; hints_are = refl; back = refl; vs = refl; large = refl; words = refl };
+        only = record { area_is = refl; places_are = refl; hints_are = refl; back = refl; vs = refl; large = refl; words = refl; searches_are = not_searched (states 0) };
       }
 
 ---- .. from any configuration at rest
 
 pub lfh_frees : LfhFreeEnds
 lfh_frees s m a granules size room r h =
-    let E : Configuration → Type 0 = λ m. EndsLfh s m (calls.Free a) replies.Done m.state.back.area (remove_found (has_address a) m.state.lfh) m.now.span_history.hints in
+    let E : Configuration → Type 0 = λ m. EndsLfh s m (calls.Free a) replies.Done m.state.back.area (remove_found (has_address a) m.state.lfh) m.now.span_history.hints (searches_of m) in
     subst E (sym r.rest) (frees_it s m.state.back m.state.vs m.state.lfh m.state.large m.state.words m.now.calls m.now.disturbed m.now.span_history room r.hands r.whole r.used a granules size h)
 
 pub lfh_sizes : LfhSizeEnds
 lfh_sizes s m a granules size room r h =
-    let E : Configuration → Type 0 = λ m. EndsLfh s m (calls.Size a) (replies.Number size) m.state.back.area m.state.lfh m.now.span_history.hints in
+    let E : Configuration → Type 0 = λ m. EndsLfh s m (calls.Size a) (replies.Number size) m.state.back.area m.state.lfh m.now.span_history.hints (searches_of m) in
     subst E (sym r.rest) (sizes_it s m.state.back m.state.vs m.state.lfh m.state.large m.state.words m.now.calls m.now.disturbed m.now.span_history room r.hands r.whole r.used a granules size h)

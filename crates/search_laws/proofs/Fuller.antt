@@ -2,14 +2,14 @@
 use Rattle.std.proofs.Common.{◌≡◌, ℕ, zero, suc, ◌+◌, ◌*◌, ◌/◌, ◌%◌, ◌<◌, ◌≤◌, Bool, true, false, ◌&&◌, ◌||◌, not, List, [], ◌∷◌, Option, Some, None, is_none, refl, sym, ap, subst, ◌∙◌, arith, add-zero, eqb, leb, ltb, inl, inr}
 use Rattle.std.specs.Prelude.{filter}
 use Rattle.std.specs.List.{list_any}
-use Rattle.std.proofs.lemmas.Bool.{cases_Bool, cases_eq, and_parts, and_from, or_parts, le-leb, leb-true, ltb-true, eq-eqb, not-true, both_ways}
+use Rattle.std.proofs.lemmas.Bool.{cases_Bool, cases_eq, and_parts, and_from, or_parts, le-leb, leb-true, ltb-true, eq-eqb, not-true, both_ways, false≢true}
 use Rattle.heap_model.specs.Buckets.{bucket_pages, block_size}
 use Rattle.heap_model.specs.Runs.{Run, joined, runs, fitting, least}
 use Rattle.heap_model.specs.State.{Area, Span, insert_span}
 use Rattle.heap_model.specs.Backend.{in_span, is_usable, is_free, free_runs, is_better, back_place, first_or, next_segment}
 use Rattle.heap_model.specs.CallState.{Stage, NotBegun, AtHint, FirstPass, SecondPass, CallerView}
 use Rattle.heap_model.specs.Search.{SearchKey, spans_of, is_span_of, first_of, is_read, last_read, all_read_at, is_spent}
-use Rattle.heap_model.specs.Legal.{with_span}
+use Rattle.heap_model.specs.Legal.{with_span, searched_once}
 use Rattle.std.specs.Prelude.{is_some}
 use Rattle.heap_model.proofs.ListLemmas.{filter-insert_span}
 use Rattle.heap_soundness.proofs.RunLemmas.{Passes, runs_pass, fitting_all, least_all}
@@ -201,6 +201,19 @@ is_reserved a segments b j first some h there =
         subst (λ (u : ℕ). u / 256 < a.reserved) same (lower r.first free)
 
 ---- A spent search
+
+-- a search that is spent and has not lost counts as one
+pub spent_counts : (a : Area) (k : CallerView) (g : SearchKey) → is_spent a k g ≡ true → k.call.search.lost ≡ 0 → searched_once k.call.search.stage ≡ 1
+spent_counts a k g h none_lost =
+    let p = and_parts k.back (eqb k.call.search.lost 8 || (k.call.search.ended && all_read_at a k g k.call.search.stage)) h in
+    let q : (k.call.search.ended && all_read_at a k g k.call.search.stage) ≡ true = rw none_lost at p.1 in
+    read (k.call.search.stage) (and_parts k.call.search.ended (all_read_at a k g k.call.search.stage) q).1
+  where
+    read : (stage : Stage) → all_read_at a k g stage ≡ true → searched_once stage ≡ 1
+    read NotBegun e = absurd (false≢true e)
+    read AtHint e = refl
+    read FirstPass e = refl
+    read SecondPass e = refl
 
 all_same : (a c : Area) (k : CallerView) (g : SearchKey) (stage : Stage) → spans_of c g.bucket g.slot ≡ spans_of a g.bucket g.slot → all_read_at c k g stage ≡ all_read_at a k g stage
 all_same a c k g NotBegun e = refl

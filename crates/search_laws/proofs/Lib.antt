@@ -1,7 +1,9 @@
 pub mod Steps
 pub mod Words
+pub mod Filtered
 pub mod Passes
 pub mod Searching
+pub mod Bits
 pub mod Blocks
 pub mod Ends
 pub mod Placing

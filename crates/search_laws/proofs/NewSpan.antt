@@ -1,8 +1,8 @@
 -- A span that is made for a bucket and a slot where no other has a free block, and its first block.
 use Rattle.std.proofs.Common.{◌≡◌, ℕ, zero, suc, ◌+◌, ◌-◌, ◌*◌, ◌/◌, ◌%◌, ◌<◌, ◌≤◌, Bool, true, false, ◌&&◌, List, [], ◌∷◌, ◌++◌, Option, Some, None, refl, sym, ap, subst, ◌∙◌, arith, eqb, leb, ltb, mod-lt, inl, inr}
-use Rattle.std.specs.Prelude.{filter, unwrap_or}
-use Rattle.std.specs.List.{find, list_any, list_all, AllByRecursion}
-use Rattle.std.proofs.lemmas.Bool.{cases_Bool, and_from, and_right, or_parts, le-leb, lt-ltb, eq-eqb, ne_eqb, agree_below_at, ltb-true, both_ways}
+use Rattle.std.specs.Prelude.{unwrap_or}
+use Rattle.std.specs.List.{find, list_any, list_all}
+use Rattle.std.proofs.lemmas.Bool.{cases_Bool, and_from, and_right, or_parts, le-leb, lt-ltb, eq-eqb, agree_below_at, ltb-true}
 use Rattle.heap_model.specs.declared.Call.TheVariants as calls
 use Rattle.heap_model.specs.declared.Act.{Act}
 use Rattle.heap_model.specs.declared.Act.TheVariants as acts
@@ -10,20 +10,20 @@ use Rattle.heap_model.specs.declared.Reply.TheVariants as replies
 use Rattle.heap_model.specs.declared.Kind.TheVariants as kinds
 use Rattle.heap_model.specs.Buckets.{bucket_of, bucket_pages, block_size, block_address, block_count, valid_bits}
 use Rattle.heap_model.specs.Bits.{starts_at, pick}
-use Rattle.heap_model.specs.State.{Setting, Area, BackPart, VsPart, Span, Place, is_kind, in_hand, insert_span, updated}
+use Rattle.heap_model.specs.State.{Setting, BackPart, VsPart, Span, Place, is_kind, in_hand, insert_span, updated}
 use Rattle.heap_model.specs.Backend.{in_span, is_free, back_place}
 use Rattle.heap_model.specs.Ranges.{is_of_kind}
 use Rattle.heap_model.specs.CallState.{Configuration, CallState, Search, SpanHistory, Demand, PlaceBy, caller_view}
 use Rattle.heap_model.specs.Search.{SearchKey, first_word, spans_of, is_span_of, is_spent, own_block, after_own_span}
-use Rattle.heap_model.specs.Legal.{after, has_place, are_used, with_area, with_span, put_maker, is_lfh_over, meets_demand, may_follow, step_search}
+use Rattle.heap_model.specs.Legal.{after, has_place, are_used, with_area, with_span, put_maker, is_lfh_over, meets_demand, may_follow, step_search, searched_once}
 use Rattle.heap_model.specs.Alone.{by_zero}
 use Rattle.heap_model.proofs.ListLemmas.{filter-insert_span}
-use Rattle.heap_soundness.specs.Sound.{IsOneOf, IsInLfh}
+use Rattle.heap_soundness.specs.Sound.{IsOneOf}
 use Rattle.heap_soundness.proofs.BackendLemmas.{AreFree, back_place_free, outside_of}
-use Rattle.heap_soundness.proofs.Layers.{HaveBucketPages, block_end, lfh_end}
-use Rattle.heap_soundness.proofs.Lists.{all_weaker, none_from}
+use Rattle.heap_soundness.proofs.Layers.{block_end}
 use Rattle.heap_soundness.proofs.Picks.{pick_below}
-use Rattle.heap_soundness.proofs.Spans.{made_in, in_some}
+use Rattle.heap_soundness.proofs.Spans.{made_in}
+use Rattle.heap_soundness.proofs.GapRuns.{in_filtered}
 use Rattle.serial_laws.specs.BackCalls.{plain}
 use Rattle.search_laws.specs.Reading.{found_of, lfh_block}
 use Rattle.search_laws.specs.Laws.{key_of}
@@ -54,11 +54,6 @@ own_below g some = by_pick (pick 0 (valid_bits g.bucket (first_word g)) (g.draw 
 
 ---- The lists of spans with it
 
-filtered_in : (t : Span → Bool) (x : Span) (xs : List Span) → t x ≡ true → IsOneOf x xs → IsOneOf x (filter t xs)
-filtered_in t x [] h i = absurd i
-filtered_in t x (y ∷ ys) h (inl e) = let k = ap t e ∙ h in rw k (inl e)
-filtered_in t x (y ∷ ys) h (inr i) = elim (cases_Bool (t y)) [ inl e ↦ rw e (inr (filtered_in t x ys h i)) | inr e ↦ rw e (filtered_in t x ys h i) ]
-
 -- what passes in no other span is found in it
 found_new : (t : Span → Bool) (x : Span) (ys : List Span) → t x ≡ true → list_any t ys ≡ false → find t (insert_span x ys) ≡ Some x
 found_new t x [] h none = rw h refl
@@ -70,56 +65,6 @@ found_new t x (y ∷ ys) h none = elim (cases_Bool (ltb x.first y.first)) [
 none_over : (u : ℕ) (ys : List Span) → list_any (in_span u) ys ≡ false → list_any (λ y. is_kind y.kind kinds.Lfh && in_span u y) ys ≡ false
 none_over u [] h = refl
 none_over u (y ∷ ys) h = let p = or_parts (in_span u y) (list_any (in_span u) ys) h in let n = and_right (is_kind y.kind kinds.Lfh) (in_span u y) p.0 in rw n (none_over u ys p.1)
-
----- Where no place is
-
--- a bucket that has blocks has a size
-size_of : (b : ℕ) → 0 < block_count b → 0 < block_size b
-size_of zero l = absurd (omega (arith, l))
-size_of (suc b) l = elim (cases_Bool (leb (suc b) 64)) [
-  | inl e ↦ rw e (omega arith)
-  | inr e ↦ elim (cases_Bool (leb (suc b) 80)) [
-    | inl f ↦ rw (e, f) (omega arith)
-    | inr f ↦ elim (cases_Bool (leb (suc b) 96)) [
-      | inl g ↦ rw (e, f, g) (omega arith)
-      | inr g ↦ elim (cases_Bool (leb (suc b) 112)) [
-        | inl h ↦ rw (e, f, g, h) (omega arith)
-        | inr h ↦ rw (e, f, g, h) (omega arith)
-      ]
-    ]
-  ]
-]
-
--- where a span of a bucket is to be made in a reserved segment, and each block lies in a span, none is where its blocks would be
-pub clear_in_new : (a : Area) (segments b first i : ℕ) (ps : List Place) → (1 ≤ b) × (b ≤ 128) → i < block_count b → AllByRecursion (λ p. IsInLfh a.spans p.start p.granules) ps → HaveBucketPages a.spans →
-    back_place a segments (bucket_pages b) ≡ Some first → first / 256 < a.reserved → starts_at ps (block_address b first i) ≡ false
-clear_in_new a segments b first i ps range below homes pages fits reserved = none_from (λ p. eqb p.start start) ps (all_weaker (λ p. IsInLfh a.spans p.start p.granules) (λ p. eqb p.start start ≡ false) ps (λ p j h. ne_eqb p.start start (λ e. no p.start p.granules h e)) homes)
-  where
-    start : ℕ
-    start = block_address b first i
-
-    u : ℕ
-    u = start / 4096
-
-    free : is_free a u ≡ true
-    free =
-        let p = page_of b first i (some_size b range.0 range.1) below in
-        let k = back_place_free a segments (bucket_pages b) first fits reserved in
-        at u p.0 p.1 k
-      where
-        at : (v : ℕ) → first ≤ v → v < first + bucket_pages b → AreFree a first (bucket_pages b) → is_free a v ≡ true
-        at v low high k = let e : first + (v - first) ≡ v = omega arith in subst (λ (n : ℕ). is_free a n ≡ true) e (k (v - first) (omega arith))
-
-    in_page : (from to at granules size : ℕ) → 0 < size → 16 * granules ≡ size → 4096 * from + 64 ≤ at → at + 16 * granules ≤ 4096 * to → (from ≤ at / 4096) × (at / 4096 < to)
-    in_page from to at granules size some e low high = (omega arith, omega arith)
-
-    no : (at granules : ℕ) → IsInLfh a.spans at granules → at ≡ start → ⊥
-    no at granules h e =
-        let ends = lfh_end a.spans at granules pages h in
-        let some : 0 < block_size h.span.bucket = size_of h.span.bucket (omega (arith, h.below)) in
-        let p = in_page h.span.first (h.span.first + h.span.pages) at granules (block_size h.span.bucket) some h.size ends.0 ends.1 in
-        let q : (h.span.first ≤ u) × (u < h.span.first + h.span.pages) = subst (λ (n : ℕ). (h.span.first ≤ n / 4096) × (n / 4096 < h.span.first + h.span.pages)) e p in
-        both_ways (list_any (in_span u) a.spans) (outside_of a u free) (in_some a.spans h.span u h.there q.0 q.1)
 
 ---- The acts
 
@@ -159,7 +104,7 @@ module _ (s : Setting) (back : BackPart) (vs : VsPart) (lfh large : List Place) 
       (none_over (start / 4096) back.area.spans outside)
 
   there : IsOneOf x (spans_of with_new.area b (s.slot 0))
-  there = filtered_in (is_span_of b (s.slot 0)) x (insert_span x back.area.spans) (and_from (eqb b b) (eqb (s.slot 0) (s.slot 0)) (eq-eqb b b refl) (eq-eqb (s.slot 0) (s.slot 0) refl)) (made_in x back.area.spans)
+  there = in_filtered (is_span_of b (s.slot 0)) x (insert_span x back.area.spans) (and_from (eqb b b) (eqb (s.slot 0) (s.slot 0)) (eq-eqb b b refl) (eq-eqb (s.slot 0) (s.slot 0) refl)) (made_in x back.area.spans)
 
   -- the other spans are as before
   whole_with : are_used 4096 kinds.Back back.places (insert_span x back.area.spans) ≡ true
@@ -182,18 +127,18 @@ module _ (s : Setting) (back : BackPart) (vs : VsPart) (lfh large : List Place) 
 
   pub ends_span : (old : Configuration) (other : ℕ → CallState) (f : Search) (disturbed : ℕ → Bool) (history : SpanHistory) (demand : Demand) →
       let m = inside back_locked back vs lfh large words other (asking n q f) disturbed history demand in
-      key_of s m b ≡ g → is_spent back.area (caller_view m 0) (key_of s m b) ≡ true → meets_demand back.area (by_zero span_act) demand ≡ true → starts_at lfh start ≡ false →
+      key_of s m b ≡ g → is_spent back.area (caller_view m 0) (key_of s m b) ≡ true → searched_once f.stage ≡ 1 → meets_demand back.area (by_zero span_act) demand ≡ true → starts_at lfh start ≡ false →
       old.state.back.places ≡ back.places → old.state.vs ≡ vs → old.state.large ≡ large → old.state.words ≡ words →
-      EndsFrom s old m (calls.Alloc n plain) (replies.Address start) (with_span back.area x) (lfh_block b n (found_of x own) ∷ lfh) (hint_put history.hints b (s.slot 0) first)
-  ends_span old other f disturbed history demand key spent meets clear same_places same_vs same_large same_words =
-      ends_act s (calls.Alloc n plain) (replies.Address start) (λ k. OnlyLfh old k (with_span back.area x) (lfh_block b n (found_of x own) ∷ lfh) (hint_put history.hints b (s.slot 0) first)) m span_act refl may
+      EndsFrom s old m (calls.Alloc n plain) (replies.Address start) (with_span back.area x) (lfh_block b n (found_of x own) ∷ lfh) (hint_put history.hints b (s.slot 0) first) (q + 1)
+  ends_span old other f disturbed history demand key spent counts meets clear same_places same_vs same_large same_words =
+      ends_act s (calls.Alloc n plain) (replies.Address start) (λ k. OnlyLfh old k (with_span back.area x) (lfh_block b n (found_of x own) ∷ lfh) (hint_put history.hints b (s.slot 0) first) (q + 1)) m span_act refl may
       (subst Ends (sym next) ends)
     where
       m : Configuration
       m = inside back_locked back vs lfh large words other (asking n q f) disturbed history demand
 
       Ends : Configuration → Type 0
-      Ends m = EndsFrom s old m (calls.Alloc n plain) (replies.Address start) (with_span back.area x) (lfh_block b n (found_of x own) ∷ lfh) (hint_put history.hints b (s.slot 0) first)
+      Ends m = EndsFrom s old m (calls.Alloc n plain) (replies.Address start) (with_span back.area x) (lfh_block b n (found_of x own) ∷ lfh) (hint_put history.hints b (s.slot 0) first) (q + 1)
 
       may : may_follow s m (by_zero span_act) ≡ true
       may =
@@ -215,4 +160,4 @@ module _ (s : Setting) (back : BackPart) (vs : VsPart) (lfh large : List Place) 
       ends : Ends made
       ends =
           ends_locked s with_new vs lfh large words n b q x own is_bucket active range none whole_with used_with there clear old (updated other 0 (asking n q f)) (after_own_span g f first) disturbed (put_maker history 0 first kinds.Lfh) (PlaceBy 0 x)
-          refl refl over refl refl (rw lies refl) same_places same_vs same_large same_words
+          refl refl counts over refl refl (rw lies refl) same_places same_vs same_large same_words

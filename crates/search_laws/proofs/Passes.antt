@@ -1,5 +1,5 @@
 -- A pass over the spans of a bucket and a slot, in the order of their pages.
-use Rattle.std.proofs.Common.{◌≡◌, ℕ, ◌+◌, ◌<◌, ◌≤◌, Bool, true, false, not, List, [], ◌∷◌, ◌++◌, Option, Some, None, option_map, is_some, refl, sym, ap, subst, ◌∙◌, arith, eqb, inl, inr, if◌then◌else◌}
+use Rattle.std.proofs.Common.{◌≡◌, ℕ, ◌+◌, ◌<◌, Bool, true, false, not, List, [], ◌∷◌, ◌++◌, Option, Some, None, option_map, is_some, refl, sym, ap, subst, ◌∙◌, arith, eqb, inl, inr, if◌then◌else◌}
 use Rattle.std.specs.Prelude.{filter}
 use Rattle.std.specs.Option.{option_or}
 use Rattle.std.specs.List.{find, list_any, AllByRecursion}
@@ -20,28 +20,6 @@ use Rattle.search_laws.proofs.Steps.{leads_here, leads_on}
 use Rattle.search_laws.proofs.Words.{at_words, view_with, key, Here, still_here, SpanGives, IsReading, span_is_read, word_behind_none}
 
 ---- Lists of spans in order
-
-lower : (low low' : ℕ) (xs : List Span) → low' ≤ low → AreInOrder low xs → AreInOrder low' xs
-lower low low' [] l a = tt
-lower low low' (x ∷ xs) l a = (omega (arith, a.0, l), a.1, a.2)
-
-pub filtered_in_order : (t : Span → Bool) (low : ℕ) (xs : List Span) → AreInOrder low xs → AreInOrder low (filter t xs)
-filtered_in_order t low [] a = tt
-filtered_in_order t low (x ∷ xs) a = elim (cases_Bool (t x)) [
-  | inl e ↦ rw e (a.0, a.1, filtered_in_order t (x.first + x.pages) xs a.2)
-  | inr e ↦ rw e (lower (x.first + x.pages) low (filter t xs) (omega (arith, a.0)) (filtered_in_order t (x.first + x.pages) xs a.2))
-]
-
-pub in_filtered : (t : Span → Bool) (x : Span) (xs : List Span) → IsOneOf x (filter t xs) → IsOneOf x xs × (t x ≡ true)
-in_filtered t x [] i = absurd i
-in_filtered t x (y ∷ ys) i = elim (cases_Bool (t y)) [
-  | inl e ↦ kept e (rw e at i) (in_filtered t x ys)
-  | inr e ↦ let r = in_filtered t x ys (rw e at i) in (inr r.0, r.1)
-]
-  where
-    kept : t y ≡ true → IsOneOf x (y ∷ filter t ys) → (IsOneOf x (filter t ys) → IsOneOf x ys × (t x ≡ true)) → IsOneOf x (y ∷ ys) × (t x ≡ true)
-    kept e (inl f) again = (inl f, subst (λ (z : Span). t z ≡ true) f e)
-    kept e (inr j) again = let r = again j in (inr r.0, r.1)
 
 -- a span of a list in order is the one that begins at its page
 pub found_there : (low : ℕ) (xs : List Span) (x : Span) → AreInOrder low xs → IsOneOf x xs → find (begins_at x.first) xs ≡ Some x
@@ -185,7 +163,7 @@ module _ (s : Setting) (b d : ℕ) (st : State) (stage : Stage) (some : 0 < word
           LeadsTo s m (reads_of st.lfh g y ++ (if is_some o then [] else rest)) (Given (option_or (option_map (found_of y) o) found))
       by_block (Some i) r =
           leads_on s m (reads_of st.lfh g y) [] (SpanGives stage y.first read (words_in_use b) (Some i)) (Given (Some (found_of y i))) r
-          (leads_here s (configuration_by s m (reads_of st.lfh g y)) (Given (Some (found_of y i))) (record { picked = r.holds.picked; read = ap head_of r.holds.read; lost = r.holds.lost }))
+          (leads_here s (configuration_by s m (reads_of st.lfh g y)) (Given (Some (found_of y i))) (record { picked = r.holds.picked; read = ap head_of r.holds.read; lost = r.holds.lost; counts = r.holds.counts }))
       by_block None r =
           leads_on s m (reads_of st.lfh g y) rest (SpanGives stage y.first read (words_in_use b) None) (Given found) r
           (go (configuration_by s m (reads_of st.lfh g y)) r.only r.holds)

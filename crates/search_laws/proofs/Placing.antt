@@ -16,7 +16,7 @@ use Rattle.heap_model.specs.State.{Setting, BackPart, VsPart, Span, Place, Live,
 use Rattle.heap_model.specs.Backend.{in_span}
 use Rattle.heap_model.specs.CallState.{Configuration, CallState, Search, SpanHistory, Demand, Nothing}
 use Rattle.heap_model.specs.Search.{spans_of, head_of, may_claim}
-use Rattle.heap_model.specs.Legal.{after, are_used, is_empty, with_status, on, layer_of, is_picked_in, is_lfh_over, hints_with, meets_demand}
+use Rattle.heap_model.specs.Legal.{after, are_used, is_empty, with_status, on, layer_of, is_picked_in, is_lfh_over, hints_with, meets_demand, searched_once}
 use Rattle.heap_model.specs.Alone.{by_zero}
 use Rattle.heap_soundness.specs.Sound.{IsOneOf, AreInOrder}
 use Rattle.heap_soundness.proofs.Layers.{block_end}
@@ -129,11 +129,11 @@ module _ (s : Setting) (back : BackPart) (vs : VsPart) (lfh large : List Place) 
   places_it f picked read = any_in (is_picked_in b f start granules) (spans_of back.area b (s.slot 0)) x there (picks_it b f x i (some_size b range.0 range.1) picked read)
 
   -- without a lock
-  pub ends_free : (old : Configuration) (other : ℕ → CallState) (f : Search) (disturbed : ℕ → Bool) (history : SpanHistory) → f.picked ≡ Some i → head_of f.read ≡ Some x.first →
+  pub ends_free : (old : Configuration) (other : ℕ → CallState) (f : Search) (disturbed : ℕ → Bool) (history : SpanHistory) → f.picked ≡ Some i → head_of f.read ≡ Some x.first → searched_once f.stage ≡ 1 →
       old.state.back ≡ back → old.state.vs ≡ vs → old.state.large ≡ large → old.state.words ≡ words →
       EndsFrom s old (inside open_locks back vs lfh large words other (asking n q f) disturbed history Nothing) (calls.Alloc n plain) (replies.Address start) back.area
-      (lfh_block b n (record { span = x; index = i }) ∷ lfh) history.hints
-  ends_free old other f disturbed history picked read same_back same_vs same_large same_words =
+      (lfh_block b n (record { span = x; index = i }) ∷ lfh) history.hints (q + 1)
+  ends_free old other f disturbed history picked read counts same_back same_vs same_large same_words =
       let m = inside open_locks back vs lfh large words other (asking n q f) disturbed history Nothing in
       let m1 = after s m (by_zero (acts.Place start granules layers.Lfh)) in
       let m2 = after s m1 (by_zero (acts.Give start n)) in
@@ -159,16 +159,17 @@ module _ (s : Setting) (back : BackPart) (vs : VsPart) (lfh large : List Place) 
           vs = ap (λ (ps : List Place). record { places = ps; active = vs.active; served = vs.served }) (others lfh vs.places back.places large start granules n none layers.Vs vs.places refl) ∙ sym same_vs;
           large = others lfh vs.places back.places large start granules n none layers.Large large refl ∙ sym same_large;
           words = sym same_words;
+          searches_are = ap (λ (k : ℕ). q + k) counts;
         };
       }
 
   -- under the lock of the back end, by which its span is the hint then
-  pub ends_locked : (old : Configuration) (other : ℕ → CallState) (f : Search) (disturbed : ℕ → Bool) (history : SpanHistory) (demand : Demand) → f.picked ≡ Some i → head_of f.read ≡ Some x.first →
+  pub ends_locked : (old : Configuration) (other : ℕ → CallState) (f : Search) (disturbed : ℕ → Bool) (history : SpanHistory) (demand : Demand) → f.picked ≡ Some i → head_of f.read ≡ Some x.first → searched_once f.stage ≡ 1 →
       find (is_lfh_over start) back.area.spans ≡ Some x → x.bucket ≡ b → x.slot ≡ s.slot 0 → meets_demand back.area (by_zero (acts.Place start granules layers.Lfh)) demand ≡ true →
       old.state.back.places ≡ back.places → old.state.vs ≡ vs → old.state.large ≡ large → old.state.words ≡ words →
       EndsFrom s old (inside back_locked back vs lfh large words other (asking n q f) disturbed history demand) (calls.Alloc n plain) (replies.Address start) back.area
-      (lfh_block b n (record { span = x; index = i }) ∷ lfh) (hint_put history.hints b (s.slot 0) x.first)
-  ends_locked old other f disturbed history demand picked read over of_bucket of_slot meets same_places same_vs same_large same_words =
+      (lfh_block b n (record { span = x; index = i }) ∷ lfh) (hint_put history.hints b (s.slot 0) x.first) (q + 1)
+  ends_locked old other f disturbed history demand picked read counts over of_bucket of_slot meets same_places same_vs same_large same_words =
       let m = inside back_locked back vs lfh large words other (asking n q f) disturbed history demand in
       let m1 = after s m (by_zero (acts.Place start granules layers.Lfh)) in
       let m2 = after s m1 (by_zero (acts.Give start n)) in
@@ -201,6 +202,7 @@ module _ (s : Setting) (back : BackPart) (vs : VsPart) (lfh large : List Place) 
           vs = ap (λ (ps : List Place). record { places = ps; active = vs.active; served = vs.served }) (others lfh vs.places back.places large start granules n none layers.Vs vs.places refl) ∙ sym same_vs;
           large = others lfh vs.places back.places large start granules n none layers.Large large refl ∙ sym same_large;
           words = sym same_words;
+          searches_are = ap (λ (k : ℕ). q + k) counts;
         };
       }
 

@@ -14,11 +14,13 @@ use Rattle.heap_model.specs.Legal.{after}
 use Rattle.heap_model.specs.Alone.{by_zero}
 use Rattle.heap_soundness.specs.Sound.{AreInOrder}
 use Rattle.heap_soundness.proofs.Lists.{all_from, any_in}
+use Rattle.heap_soundness.proofs.GapRuns.{filtered_cases}
 use Rattle.search_laws.specs.Reading.{found_of, word_behind, block_found, reads_of, pass_found}
 use Rattle.search_laws.specs.Laws.{key_of, search_of, Searches, HintIsDry, HintGives, HintIsRead, HintIsMissed, FirstPassIsRead, SecondPassIsRead}
 use Rattle.search_laws.proofs.Steps.{goes_from, leads_here, leads_first, leads_so, search_missed, only_missed, may_be_missed}
 use Rattle.search_laws.proofs.Words.{at_words, view_with, key, Here, SpanGives, span_is_read, word_behind_none}
-use Rattle.search_laws.proofs.Passes.{filtered_in_order, in_filtered, found_there, none_read, Before, before_next, pass_on}
+use Rattle.search_laws.proofs.Passes.{found_there, none_read, Before, before_next, pass_on}
+use Rattle.search_laws.proofs.Filtered.{filtered_in_order}
 
 pub some_words : (b : ℕ) → 1 ≤ b → b ≤ 128 → 0 < words_in_use b
 some_words zero l h = absurd (omega arith)
@@ -43,7 +45,7 @@ pub hint_is_read : HintIsRead
 hint_is_read s m b x h not_begun hinted there =
     leads_so s m (reads_of m.state.lfh g x) (SpanGives AtHint x.first [] (words_in_use b) (block_found m.state.lfh g x)) (HintGives (pass_found m.state.lfh g (x ∷ [])))
     (gives (block_found m.state.lfh g x))
-    (span_is_read s b d m.state x AtHint [] m (found_there 0 m.state.back.area.spans x h.in_order (in_filtered (is_span_of b (s.slot 0)) x m.state.back.area.spans there).0) tt some (here s m b h)
+    (span_is_read s b d m.state x AtHint [] m (found_there 0 m.state.back.area.spans x h.in_order (filtered_cases (is_span_of b (s.slot 0)) x m.state.back.area.spans there).0) tt some (here s m b h)
     (ap (λ (q : Search). onto_span q x.first) f) sees)
   where
     d : ℕ
@@ -68,7 +70,7 @@ hint_is_read s m b x h not_begun hinted there =
         (rw (w, i, k) refl)
 
     gives : (o : Option ℕ) (n : Configuration) → SpanGives AtHint x.first [] (words_in_use b) o n → HintGives (option_or (option_map (found_of x) o) None) n
-    gives (Some i) n h = record { picked = h.picked; read = ap (λ (hs : List ℕ). head_of hs) h.read; lost = h.lost }
+    gives (Some i) n h = record { picked = h.picked; read = ap (λ (hs : List ℕ). head_of hs) h.read; lost = h.lost; counts = h.counts }
     gives None n h = record { stage = ap (λ (q : Search). q.stage) h; ended = ap (λ (q : Search). q.ended) h; picked = ap (λ (q : Search). q.picked) h; lost = ap (λ (q : Search). q.lost) h }
 
 pub hint_is_missed : HintIsMissed
@@ -90,7 +92,7 @@ hint_is_missed s m b h not_begun none =
 
 -- each span of the bucket and the slot is the one at its page
 each_there : (area_spans : List Span) (b t : ℕ) → AreInOrder 0 area_spans → AllByRecursion (λ y. find (begins_at y.first) area_spans ≡ Some y) (filter (is_span_of b t) area_spans)
-each_there xs b t a = all_from (λ (y : Span). find (begins_at y.first) xs ≡ Some y) (filter (is_span_of b t) xs) (λ y i. found_there 0 xs y a (in_filtered (is_span_of b t) y xs i).0)
+each_there xs b t a = all_from (λ (y : Span). find (begins_at y.first) xs ≡ Some y) (filter (is_span_of b t) xs) (λ y i. found_there 0 xs y a (filtered_cases (is_span_of b t) y xs i).0)
 
 pub first_pass_is_read : FirstPassIsRead
 first_pass_is_read s m b h dry back no_span =

@@ -16,8 +16,9 @@ use Rattle.heap_model.specs.Backend.{back_place}
 use Rattle.heap_model.specs.Ranges.{gaps_of, vs_spans, vs_place}
 use Rattle.heap_model.specs.CallState.{Configuration, CallState, Search, SpanHistory, Nothing, caller_view}
 use Rattle.heap_model.specs.Search.{SearchKey, draw_of, is_spent}
-use Rattle.heap_model.specs.Legal.{after, are_used, is_empty, with_span, serve, suits}
+use Rattle.heap_model.specs.Legal.{after, are_used, is_empty, with_span, serve, suits, searched_once}
 use Rattle.heap_model.specs.Alone.{by_zero}
+use Rattle.serial_laws.specs.OneCall.{searches_of}
 use Rattle.serial_laws.specs.BackCalls.{plain}
 use Rattle.serial_laws.specs.VsCalls.{vs_block, vs_span_for}
 use Rattle.serial_laws.proofs.NewSpan.{lies_in_new_span}
@@ -58,7 +59,7 @@ suits_it n r h (inr e) =
 
 module _ (s : Setting) (back : BackPart) (vs : VsPart) (lfh large : List Place) (words : ℕ → ℕ) (history : SpanHistory) (n b q : ℕ) (is_bucket : bucket_of n ≡ Some b) (active : vs.active b ≡ true)
     (none : in_hand 0 lfh ++ in_hand 0 vs.places ++ in_hand 0 back.places ++ in_hand 0 large ≡ []) (whole : are_used 4096 kinds.Back back.places back.area.spans ≡ true) (used : are_used 4096 kinds.Vs vs.places back.area.spans ≡ true)
-    (no_range : back_place back.area s.limits.segments (bucket_pages b) ≡ None) (old : Configuration) (same_places : old.state.back.places ≡ back.places) (same_large : old.state.large ≡ large) (same_words : old.state.words ≡ words)
+    (no_range : back_place back.area s.limits.segments (bucket_pages b) ≡ None) (old : Configuration) (same_places : old.state.back.places ≡ back.places) (same_large : old.state.large ≡ large) (same_words : old.state.words ≡ words) (same_searches : searches_of old ≡ q)
     (other : ℕ → CallState) (f : Search) (disturbed : ℕ → Bool) where
   abbrev g : SearchKey
   g = key s b (draw_of s 0 q)
@@ -70,7 +71,10 @@ module _ (s : Setting) (back : BackPart) (vs : VsPart) (lfh large : List Place) 
   abbrev here : Configuration
   here = inside both_locked back vs lfh large words other (fallen n q f) disturbed history Nothing
 
-  module _ (spent : is_spent back.area (caller_view here 0) g ≡ true) where
+  module _ (spent : is_spent back.area (caller_view here 0) g ≡ true) (counts : searched_once f.stage ≡ 1) where
+    one_more : q + searched_once f.stage ≡ searches_of old + 1
+    one_more = ap (λ (k : ℕ). q + k) counts ∙ ap (λ (k : ℕ). k + 1) (sym same_searches)
+
     pub gap_ends : (r : Run) → vs_place (gaps_of (vs_spans back.area) vs.places) (units_of n) ≡ Some r →
         EndsSo s here call (replies.Address (16 * r.first + 16)) (λ k. OnlySmall old k back.area (vs_with vs r n b) lfh history.hints)
     gap_ends r fits =
@@ -113,6 +117,7 @@ module _ (s : Setting) (back : BackPart) (vs : VsPart) (lfh large : List Place) 
             back = others lfh vs.places back.places large r n none layers.Back back.places refl ∙ sym same_places;
             large = others lfh vs.places back.places large r n none layers.Large large refl ∙ sym same_large;
             words = sym same_words;
+            searches = one_more;
           };
         }
 
@@ -171,6 +176,7 @@ module _ (s : Setting) (back : BackPart) (vs : VsPart) (lfh large : List Place) 
             back = others lfh vs.places back.places large r n none layers.Back back.places refl ∙ sym same_places;
             large = others lfh vs.places back.places large r n none layers.Large large refl ∙ sym same_large;
             words = sym same_words;
+            searches = one_more;
           };
         }
 
@@ -195,5 +201,5 @@ module _ (s : Setting) (back : BackPart) (vs : VsPart) (lfh large : List Place) 
           answered = record { own = refl; shape = refl };
           idle = record { outside = refl; holds = refl; hands = none; demand = refl };
           at_rest = record { rest = refl; hands = none; whole = whole; used = used };
-          only = record { area_is = refl; vs_is = refl; lfh_is = refl; hints_are = refl; back = sym same_places; large = sym same_large; words = sym same_words };
+          only = record { area_is = refl; vs_is = refl; lfh_is = refl; hints_are = refl; back = sym same_places; large = sym same_large; words = sym same_words; searches = one_more };
         }

@@ -19,13 +19,14 @@ use Rattle.heap_model.specs.Alone.{at_rest, by_zero, configuration_by}
 use Rattle.heap_soundness.specs.Sound.{IsOneOf, AreInOrder}
 use Rattle.heap_soundness.proofs.Enums.{kind_is}
 use Rattle.heap_soundness.proofs.MadeSpans.{bucket_is}
+use Rattle.heap_soundness.proofs.GapRuns.{filtered_cases}
+use Rattle.serial_laws.specs.OneCall.{searches_of}
 use Rattle.serial_laws.specs.BackCalls.{plain, one_more_reserved}
 use Rattle.serial_laws.proofs.Allocate.{begins}
 use Rattle.search_laws.specs.Reading.{Found, pass_found, reads_of, lfh_block}
 use Rattle.search_laws.specs.Laws.{search_of, LeadsTo, HasPicked, HintGives}
 use Rattle.search_laws.specs.Calls.{OnlyLfh, EndsLfh, next_key, hint_put, HintHasNone, HintAllocationEnds, PassAllocationEnds, lfh_span, own_found, NoneIsFree, HasNoPlace, LfhSpanAllocationEnds, ReservingLfhSpanEnds}
 use Rattle.search_laws.proofs.Searching.{hint_is_read}
-use Rattle.search_laws.proofs.Passes.{in_filtered}
 use Rattle.search_laws.proofs.Blocks.{some_size, found_free, pass_parts}
 use Rattle.search_laws.proofs.Ends.{as_is, EndsFrom, ends_act, ends_acts, ends_call, span_silent}
 use Rattle.search_laws.proofs.Placing.{ends_free, ends_locked, over_is}
@@ -72,16 +73,16 @@ module _ (s : Setting) (back : BackPart) (vs : VsPart) (lfh large : List Place) 
   call = calls.Alloc n plain
 
   -- a call that ends from there
-  ends_entered : (reply : Reply) (area : Area) (places : List Place) (hints : ℕ → ℕ → Option ℕ) → EndsFrom s start entered call reply area places hints → EndsLfh s start call reply area places hints
+  ends_entered : (reply : Reply) (area : Area) (places : List Place) (hints : ℕ → ℕ → Option ℕ) → EndsFrom s start entered call reply area places hints (q + 1) → EndsLfh s start call reply area places hints (q + 1)
   ends_entered reply area places hints e =
-      ends_call s start call reply area places hints (begins s _ room empty)
-      (ends_act s call reply (λ k. OnlyLfh start k area places hints) (after s start (by_zero (acts.Begin call))) acts.Enter refl refl e)
+      ends_call s start call reply area places hints (q + 1) (begins s _ room empty)
+      (ends_act s call reply (λ k. OnlyLfh start k area places hints (q + 1)) (after s start (by_zero (acts.Begin call))) acts.Enter refl refl e)
 
   in_hint : (x : Span) (f : Found) → hint back.area history b (s.slot 0) ≡ Some x.first → IsOneOf x spans → pass_found lfh g (x ∷ []) ≡ Some f →
-      EndsLfh s start call (replies.Address (block_address b f.span.first f.index)) back.area (lfh_block b n f ∷ lfh) history.hints
+      EndsLfh s start call (replies.Address (block_address b f.span.first f.index)) back.area (lfh_block b n f ∷ lfh) history.hints (q + 1)
   in_hint x f hinted there is_found =
       ends_entered reply back.area places history.hints
-      (ends_acts s call reply (λ k. OnlyLfh start k back.area places history.hints) (reads_of lfh g x) entered (span_silent lfh g x) r.legal ends)
+      (ends_acts s call reply (λ k. OnlyLfh start k back.area places history.hints (q + 1)) (reads_of lfh g x) entered (span_silent lfh g x) r.legal ends)
     where
       reply : Reply
       reply = replies.Address (block_address b f.span.first f.index)
@@ -100,14 +101,14 @@ module _ (s : Setting) (back : BackPart) (vs : VsPart) (lfh large : List Place) 
       is_there (inl e) = subst (λ (y : Span). IsOneOf y spans) e there
       is_there (inr i) = absurd i
 
-      ends : EndsFrom s start here call reply back.area places history.hints
+      ends : EndsFrom s start here call reply back.area places history.hints (q + 1)
       ends =
           let parts = pass_parts lfh g (x ∷ []) f is_found in
           let i = is_there parts.0 in
-          let of = of_bucket b (s.slot 0) f.span (in_filtered (is_span_of b (s.slot 0)) f.span back.area.spans i).1 in
+          let of = of_bucket b (s.slot 0) f.span (filtered_cases (is_span_of b (s.slot 0)) f.span back.area.spans i).1 in
           let free = found_free lfh g f.span of.bucket f.index parts.1 in
-          subst (λ (m : Configuration). EndsFrom s start m call reply back.area places history.hints) (sym (as_is entered here r.only))
-          (ends_free s back vs lfh large words n b q f.span f.index is_bucket active range empty whole used i free.clear start here.now.calls (search_of here) entered.now.disturbed history r.holds.picked r.holds.read refl refl refl refl)
+          subst (λ (m : Configuration). EndsFrom s start m call reply back.area places history.hints (q + 1)) (sym (as_is entered here r.only))
+          (ends_free s back vs lfh large words n b q f.span f.index is_bucket active range empty whole used i free.clear start here.now.calls (search_of here) entered.now.disturbed history r.holds.picked r.holds.read r.holds.counts refl refl refl refl)
 
   -- the hint has no free block: what is read of it
   pub dry_hint : HintHasNone s start n b (hint back.area history b (s.slot 0)) → (rest : List Act) × IsDry s entered rest
@@ -120,23 +121,23 @@ module _ (s : Setting) (back : BackPart) (vs : VsPart) (lfh large : List Place) 
           (reads_of lfh g x, dry_by_reading s back vs lfh large words history n b q is_bucket active in_order others entered.now.disturbed x (e ∙ ap Some (sym none.1)) none.2 none.3)
 
   in_pass : (f : Found) → HintHasNone s start n b (hint back.area history b (s.slot 0)) → pass_found lfh g spans ≡ Some f → f.span.pages ≡ bucket_pages b →
-      EndsLfh s start call (replies.Address (block_address b f.span.first f.index)) back.area (lfh_block b n f ∷ lfh) (hint_put history.hints b (s.slot 0) f.span.first)
+      EndsLfh s start call (replies.Address (block_address b f.span.first f.index)) back.area (lfh_block b n f ∷ lfh) (hint_put history.hints b (s.slot 0) f.span.first) (q + 1)
   in_pass f none is_found pages =
       let reply = replies.Address (block_address b f.span.first f.index) in
       let places = lfh_block b n f ∷ lfh in
       let hints = hint_put history.hints b (s.slot 0) f.span.first in
       let dry = dry_hint none in
       ends_entered reply back.area places hints
-      (pass_then s back vs lfh large words history n b q is_bucket active in_order call reply (λ k. OnlyLfh start k back.area places hints) others entered.now.disturbed dry.0 (Some f) dry.1 is_found (λ other k picks.
+      (pass_then s back vs lfh large words history n b q is_bucket active in_order call reply (λ k. OnlyLfh start k back.area places hints (q + 1)) others entered.now.disturbed dry.0 (Some f) dry.1 is_found (λ other k picks.
       let parts = pass_parts lfh g spans f is_found in
-      let i = in_filtered (is_span_of b (s.slot 0)) f.span back.area.spans parts.0 in
+      let i = filtered_cases (is_span_of b (s.slot 0)) f.span back.area.spans parts.0 in
       let of = of_bucket b (s.slot 0) f.span i.1 in
       let free = found_free lfh g f.span of.bucket f.index parts.1 in
       let over = over_is back.area.spans b f.span f.index in_order i.0 of.kind pages (some_size b range.0 range.1) free.below in
-      ends_locked s back vs lfh large words n b q f.span f.index is_bucket active range empty whole used parts.0 free.clear start other k entered.now.disturbed history Nothing picks.picked picks.read over of.bucket of.slot refl refl refl refl refl))
+      ends_locked s back vs lfh large words n b q f.span f.index is_bucket active range empty whole used parts.0 free.clear start other k entered.now.disturbed history Nothing picks.picked picks.read picks.counts over of.bucket of.slot refl refl refl refl refl))
 
   made_span : (first : ℕ) → NoneIsFree s start n b → back_place back.area s.limits.segments (bucket_pages b) ≡ Some first → first / 256 < back.area.reserved → HasNoPlace s start n b first →
-      EndsLfh s start call (replies.Address (block_address b first (own_block g))) (with_span back.area (lfh_span first b (s.slot 0))) (lfh_block b n (own_found s start n b first) ∷ lfh) (hint_put history.hints b (s.slot 0) first)
+      EndsLfh s start call (replies.Address (block_address b first (own_block g))) (with_span back.area (lfh_span first b (s.slot 0))) (lfh_block b n (own_found s start n b first) ∷ lfh) (hint_put history.hints b (s.slot 0) first) (q + 1)
   made_span first none fits reserved clear =
       let dry = dry_hint none.hint in
       ends_entered (replies.Address (block_address b first (own_block g))) (with_span back.area (lfh_span first b (s.slot 0))) (lfh_block b n (own_found s start n b first) ∷ lfh) (hint_put history.hints b (s.slot 0) first)
@@ -144,7 +145,7 @@ module _ (s : Setting) (back : BackPart) (vs : VsPart) (lfh large : List Place) 
 
   made_next_span : (first : ℕ) → NoneIsFree s start n b → back_place (one_more_reserved back.area) s.limits.segments (bucket_pages b) ≡ Some first → first / 256 < back.area.reserved + 1 → back.area.reserved < s.limits.segments →
       list_all (λ r. is_run_of back.area.reserved r || ltb r.count (bucket_pages b)) (free_runs (one_more_reserved back.area)) ≡ true → HasNoPlace s start n b first →
-      EndsLfh s start call (replies.Address (block_address b first (own_block g))) (with_span (one_more_reserved back.area) (lfh_span first b (s.slot 0))) (lfh_block b n (own_found s start n b first) ∷ lfh) (hint_put history.hints b (s.slot 0) first)
+      EndsLfh s start call (replies.Address (block_address b first (own_block g))) (with_span (one_more_reserved back.area) (lfh_span first b (s.slot 0))) (lfh_block b n (own_found s start n b first) ∷ lfh) (hint_put history.hints b (s.slot 0) first) (q + 1)
   made_next_span first none fits reserved lower only clear =
       let dry = dry_hint none.hint in
       ends_entered (replies.Address (block_address b first (own_block g))) (with_span (one_more_reserved back.area) (lfh_span first b (s.slot 0))) (lfh_block b n (own_found s start n b first) ∷ lfh) (hint_put history.hints b (s.slot 0) first)
@@ -152,18 +153,18 @@ module _ (s : Setting) (back : BackPart) (vs : VsPart) (lfh large : List Place) 
 
 pub hint_allocation : HintAllocationEnds
 hint_allocation s m n b x f room r l hinted there is_found =
-    let E : Configuration → Type 0 = λ m. EndsLfh s m (calls.Alloc n plain) (replies.Address (block_address b f.span.first f.index)) m.state.back.area (lfh_block b n f ∷ m.state.lfh) m.now.span_history.hints in
+    let E : Configuration → Type 0 = λ m. EndsLfh s m (calls.Alloc n plain) (replies.Address (block_address b f.span.first f.index)) m.state.back.area (lfh_block b n f ∷ m.state.lfh) m.now.span_history.hints (searches_of m + 1) in
     subst E (sym r.rest) (in_hint s m.state.back m.state.vs m.state.lfh m.state.large m.state.words m.now.calls m.now.disturbed m.now.span_history n b room r.hands r.whole r.used l.bucket l.active l.in_order x f hinted there is_found)
 
 pub pass_allocation : PassAllocationEnds
 pass_allocation s m n b f room r l none is_found pages =
-    let E : Configuration → Type 0 = λ m. EndsLfh s m (calls.Alloc n plain) (replies.Address (block_address b f.span.first f.index)) m.state.back.area (lfh_block b n f ∷ m.state.lfh) (hint_put m.now.span_history.hints b (s.slot 0) f.span.first) in
+    let E : Configuration → Type 0 = λ m. EndsLfh s m (calls.Alloc n plain) (replies.Address (block_address b f.span.first f.index)) m.state.back.area (lfh_block b n f ∷ m.state.lfh) (hint_put m.now.span_history.hints b (s.slot 0) f.span.first) (searches_of m + 1) in
     subst E (sym r.rest) (in_pass s m.state.back m.state.vs m.state.lfh m.state.large m.state.words m.now.calls m.now.disturbed m.now.span_history n b room r.hands r.whole r.used l.bucket l.active l.in_order f none is_found pages)
 
 pub lfh_span_allocation : LfhSpanAllocationEnds
 lfh_span_allocation s m n b first room r l none fits reserved clear =
     let E : Configuration → Type 0 = λ m. NoneIsFree s m n b → back_place m.state.back.area s.limits.segments (bucket_pages b) ≡ Some first → first / 256 < m.state.back.area.reserved → HasNoPlace s m n b first →
-    EndsLfh s m (calls.Alloc n plain) (replies.Address (block_address b first (own_found s m n b first).index)) (with_span m.state.back.area (lfh_span first b (s.slot 0))) (lfh_block b n (own_found s m n b first) ∷ m.state.lfh) (hint_put m.now.span_history.hints b (s.slot 0) first) in
+    EndsLfh s m (calls.Alloc n plain) (replies.Address (block_address b first (own_found s m n b first).index)) (with_span m.state.back.area (lfh_span first b (s.slot 0))) (lfh_block b n (own_found s m n b first) ∷ m.state.lfh) (hint_put m.now.span_history.hints b (s.slot 0) first) (searches_of m + 1) in
     let at_rest : E (at_rest m.state.back m.state.vs m.state.lfh m.state.large m.state.words m.now.calls m.now.disturbed m.now.span_history) =
     made_span s m.state.back m.state.vs m.state.lfh m.state.large m.state.words m.now.calls m.now.disturbed m.now.span_history n b room r.hands r.whole r.used l.bucket l.active l.in_order first in
     subst E (sym r.rest) at_rest none fits reserved clear
@@ -172,7 +173,7 @@ pub reserving_lfh_span : ReservingLfhSpanEnds
 reserving_lfh_span s m n b first room r l none fits reserved lower only clear =
     let E : Configuration → Type 0 = λ m. NoneIsFree s m n b → back_place (one_more_reserved m.state.back.area) s.limits.segments (bucket_pages b) ≡ Some first → first / 256 < m.state.back.area.reserved + 1 → m.state.back.area.reserved < s.limits.segments →
     list_all (λ r. is_run_of m.state.back.area.reserved r || ltb r.count (bucket_pages b)) (free_runs (one_more_reserved m.state.back.area)) ≡ true → HasNoPlace s m n b first →
-    EndsLfh s m (calls.Alloc n plain) (replies.Address (block_address b first (own_found s m n b first).index)) (with_span (one_more_reserved m.state.back.area) (lfh_span first b (s.slot 0))) (lfh_block b n (own_found s m n b first) ∷ m.state.lfh) (hint_put m.now.span_history.hints b (s.slot 0) first) in
+    EndsLfh s m (calls.Alloc n plain) (replies.Address (block_address b first (own_found s m n b first).index)) (with_span (one_more_reserved m.state.back.area) (lfh_span first b (s.slot 0))) (lfh_block b n (own_found s m n b first) ∷ m.state.lfh) (hint_put m.now.span_history.hints b (s.slot 0) first) (searches_of m + 1) in
     let at_rest : E (at_rest m.state.back m.state.vs m.state.lfh m.state.large m.state.words m.now.calls m.now.disturbed m.now.span_history) =
     made_next_span s m.state.back m.state.vs m.state.lfh m.state.large m.state.words m.now.calls m.now.disturbed m.now.span_history n b room r.hands r.whole r.used l.bucket l.active l.in_order first in
     subst E (sym r.rest) at_rest none fits reserved lower only clear

@@ -13,9 +13,9 @@ use Rattle.heap_model.specs.Buckets.{bucket_of, bucket_pages, block_address}
 use Rattle.heap_model.specs.Bits.{starts_at}
 use Rattle.heap_model.specs.State.{Setting, BackPart, VsPart, Span, Place, open_locks, in_hand, updated}
 use Rattle.heap_model.specs.Backend.{back_place, free_runs}
-use Rattle.heap_model.specs.CallState.{Configuration, CallState, Search, not_begun, SpanHistory, Nothing, SpanBy}
+use Rattle.heap_model.specs.CallState.{Configuration, CallState, Search, not_begun, SpanHistory, Nothing, SpanBy, caller_view}
 use Rattle.heap_model.specs.Search.{SearchKey, draw_of, spans_of, hint, own_block}
-use Rattle.heap_model.specs.Legal.{after, are_used, with_area, with_span, is_run_of}
+use Rattle.heap_model.specs.Legal.{after, are_used, with_area, with_span, is_run_of, searched_once}
 use Rattle.heap_model.specs.Alone.{at_rest, by_zero, configuration_by}
 use Rattle.heap_soundness.specs.Sound.{IsOneOf, AreInOrder}
 use Rattle.heap_soundness.proofs.MadeSpans.{bucket_is}
@@ -27,6 +27,7 @@ use Rattle.search_laws.specs.Calls.{OnlyLfh, hint_put, lfh_span}
 use Rattle.search_laws.proofs.Words.{key}
 use Rattle.search_laws.proofs.Searching.{hint_is_read, hint_is_missed, first_pass_is_read}
 use Rattle.search_laws.proofs.NewSpan.{ends_span}
+use Rattle.search_laws.proofs.Fuller.{spent_counts}
 use Rattle.search_laws.proofs.Ends.{is_silent, as_is, EndsSo, EndsFrom, ends_act, ends_acts, span_silent, pass_silent}
 use Rattle.search_laws.proofs.Placing.{asking, back_locked, inside}
 
@@ -143,16 +144,20 @@ module _ (s : Setting) (back : BackPart) (vs : VsPart) (lfh large : List Place) 
     abbrev hints : ℕ → ℕ → Option ℕ
     hints = hint_put history.hints b (s.slot 0) first
 
-    pub in_span : back_place back.area s.limits.segments (bucket_pages b) ≡ Some first → first / 256 < back.area.reserved → EndsFrom s old (entered other disturbed) call reply (with_span back.area x) places hints
+    -- a pass that finds nothing has begun the search
+    is_counted : (others : ℕ → CallState) (f : Search) → PassGives s b None (locked others disturbed f) → searched_once f.stage ≡ 1
+    is_counted others f spent = spent_counts back.area (caller_view (locked others disturbed f) 0) g spent.0 spent.2
+
+    pub in_span : back_place back.area s.limits.segments (bucket_pages b) ≡ Some first → first / 256 < back.area.reserved → EndsFrom s old (entered other disturbed) call reply (with_span back.area x) places hints (q + 1)
     in_span fits reserved =
-        pass_then call reply (λ k. OnlyLfh old k (with_span back.area x) places hints) other disturbed rest None dry none (λ others f spent.
-        ends_span s back vs lfh large words n b q first is_bucket active range empty whole used fits reserved g refl old others f disturbed history Nothing refl spent.0 refl clear refl refl refl refl)
+        pass_then call reply (λ k. OnlyLfh old k (with_span back.area x) places hints (q + 1)) other disturbed rest None dry none (λ others f spent.
+        ends_span s back vs lfh large words n b q first is_bucket active range empty whole used fits reserved g refl old others f disturbed history Nothing refl spent.0 (is_counted others f spent) refl clear refl refl refl refl)
 
     pub in_next_span : let more = one_more_reserved back.area in back_place more s.limits.segments (bucket_pages b) ≡ Some first → first / 256 < back.area.reserved + 1 → back.area.reserved < s.limits.segments →
-        list_all (λ r. is_run_of back.area.reserved r || ltb r.count (bucket_pages b)) (free_runs more) ≡ true → EndsFrom s old (entered other disturbed) call reply (with_span more x) places hints
+        list_all (λ r. is_run_of back.area.reserved r || ltb r.count (bucket_pages b)) (free_runs more) ≡ true → EndsFrom s old (entered other disturbed) call reply (with_span more x) places hints (q + 1)
     in_next_span fits reserved lower only =
         let more = with_area back (one_more_reserved back.area) in
-        let Left : Configuration → Type 0 = λ k. OnlyLfh old k (with_span (one_more_reserved back.area) x) places hints in
+        let Left : Configuration → Type 0 = λ k. OnlyLfh old k (with_span (one_more_reserved back.area) x) places hints (q + 1) in
         pass_then call reply Left other disturbed rest None dry none (λ others f spent.
         ends_act s call reply Left (locked others disturbed f) (acts.Reserve back.area.reserved) refl (reserves s back.area lower)
-        (ends_span s more vs lfh large words n b q first is_bucket active range empty whole used fits reserved g refl old (updated others 0 (asking n q f)) f disturbed history (SpanBy 0 back.area.reserved) refl spent.0 only clear refl refl refl refl))
+        (ends_span s more vs lfh large words n b q first is_bucket active range empty whole used fits reserved g refl old (updated others 0 (asking n q f)) f disturbed history (SpanBy 0 back.area.reserved) refl spent.0 (is_counted others f spent) only clear refl refl refl refl))

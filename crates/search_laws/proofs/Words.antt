@@ -10,7 +10,7 @@ use Rattle.heap_model.specs.Buckets.{words_in_use, valid_bits}
 use Rattle.heap_model.specs.State.{Area, State, Setting, Span, Place}
 use Rattle.heap_model.specs.CallState.{Stage, NotBegun, AtHint, FirstPass, SecondPass, CallState, Configuration, Search, SpanHistory, CallerView, caller_view}
 use Rattle.heap_model.specs.Search.{SearchKey, draw_of, first_word, span_at, may_see, after_pick, after_saw, onto_span}
-use Rattle.heap_model.specs.Legal.{after, may_follow}
+use Rattle.heap_model.specs.Legal.{after, may_follow, searched_once}
 use Rattle.heap_model.specs.Alone.{by_zero}
 use Rattle.search_laws.specs.Reading.{word_behind, picked_at, block_from, reads_from, block_found, reads_of}
 use Rattle.search_laws.specs.Laws.{search_of, OnlySearch, LeadsTo}
@@ -30,6 +30,12 @@ IsReading NotBegun = ⊥
 IsReading AtHint = Unit {0}
 IsReading FirstPass = Unit {0}
 IsReading SecondPass = Unit {0}
+
+reading_counts : (stage : Stage) → IsReading stage → searched_once stage ≡ 1
+reading_counts NotBegun h = absurd h
+reading_counts AtHint h = refl
+reading_counts FirstPass h = refl
+reading_counts SecondPass h = refl
 
 -- a search that has read so many dry words of the last of these spans
 abbrev pub at_words : Stage → List ℕ → ℕ → Bool → Search
@@ -60,6 +66,7 @@ pub record Picks (head : ℕ) (others : List ℕ) (i : ℕ) (n : Configuration) 
   pub picked : (search_of n).picked ≡ Some i
   pub read : (search_of n).read ≡ head ∷ others
   pub lost : (search_of n).lost ≡ 0
+  pub counts : searched_once (search_of n).stage ≡ 1
 
 -- what a reading of a span leads to
 abbrev pub SpanGives : Stage → ℕ → List ℕ → ℕ → Option ℕ → Configuration → Type 0
@@ -137,7 +144,12 @@ module _ (s : Setting) (b d : ℕ) (st : State) (x : Span) (there : span_at st.b
       by_word (Some i) e =
           let f = search_after m k (Some i) e h onto in
           leads_first s m (saw k) [] (Gives (Some (64 * word k + i))) (may_read m k h sees) (only_seen s b m h.goes x.first (word k) (bits k))
-          (leads_here s (next m k) (Gives (Some (64 * word k + i))) (record { picked = ap (λ (f : Search). f.picked) f; read = ap (λ (f : Search). f.read) f; lost = ap (λ (f : Search). f.lost) f }))
+          (leads_here s (next m k) (Gives (Some (64 * word k + i))) (record {
+            picked = ap (λ (f : Search). f.picked) f;
+            read = ap (λ (f : Search). f.read) f;
+            lost = ap (λ (f : Search). f.lost) f;
+            counts = ap (λ (f : Search). searched_once f.stage) f ∙ reading_counts stage reading;
+          }))
       by_word None e = leads_first s m (saw k) rest (Gives found) (may_read m k h sees) (only_seen s b m h.goes x.first (word k) (bits k)) (go e)
 
   dry : (k : ℕ) (m : Configuration) (ended : Bool) → shown k ≡ None → Here s b d st m → onto_span (search_of m) x.first ≡ at_words stage (x.first ∷ others) k false → eqb (k + 1) (words_in_use b) ≡ ended →

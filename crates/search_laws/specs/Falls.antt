@@ -15,12 +15,12 @@ use Rattle.heap_model.specs.Ranges.{gaps, gaps_of, vs_spans, vs_place}
 use Rattle.heap_model.specs.CallState.{Configuration}
 use Rattle.heap_model.specs.Legal.{with_span, serve}
 use Rattle.heap_model.specs.Alone.{configuration_by}
-use Rattle.serial_laws.specs.OneCall.{IsAtRest, Completes}
+use Rattle.serial_laws.specs.OneCall.{IsAtRest, searches_of, Completes}
 use Rattle.serial_laws.specs.BackCalls.{plain}
 use Rattle.serial_laws.specs.VsCalls.{vs_block, vs_span_for}
 use Rattle.search_laws.specs.Calls.{IsForLfh, NoneIsFree}
 
--- Of the heap, the spans, the two layers of small blocks and the hints alone have changed, to these.
+-- Of the heap, the spans, the two layers of small blocks and the hints alone have changed, to these, and one call more has searched.
 pub record OnlySmall (old new : Configuration) (area : Area) (vs : VsPart) (lfh : List Place) (hints : ℕ → ℕ → Option ℕ) : Type 0 where
   pub area_is : new.state.back.area ≡ area
   pub vs_is : new.state.vs ≡ vs
@@ -29,6 +29,7 @@ pub record OnlySmall (old new : Configuration) (area : Area) (vs : VsPart) (lfh 
   pub back : new.state.back.places ≡ old.state.back.places
   pub large : new.state.large ≡ old.state.large
   pub words : new.state.words ≡ old.state.words
+  pub searches : searches_of new ≡ searches_of old + 1
 
 -- Some acts complete the call with this reply, leave all at rest, and change them so.
 pub record EndsSmall (s : Setting) (m : Configuration) (call : Call) (reply : Reply) (area : Area) (vs : VsPart) (lfh : List Place) (hints : ℕ → ℕ → Option ℕ) : Type 0 where

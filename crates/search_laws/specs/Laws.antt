@@ -5,6 +5,7 @@ use Rattle.heap_model.specs.declared.Act.TheVariants as acts
 use Rattle.heap_model.specs.State.{Setting, Span, is_entered}
 use Rattle.heap_model.specs.CallState.{NotBegun, AtHint, SecondPass, Search, Configuration, Nothing, caller_view}
 use Rattle.heap_model.specs.Search.{SearchKey, search_key_of, request_of, spans_of, hint, is_spent, last_read}
+use Rattle.heap_model.specs.Legal.{searched_once}
 use Rattle.heap_model.specs.Alone.{configuration_by, may_all_come}
 use Rattle.heap_soundness.specs.Sound.{IsOneOf, AreInOrder}
 use Rattle.search_laws.specs.Reading.{Found, reads_of, pass_found, pass_reads}
@@ -42,11 +43,12 @@ pub record LeadsTo (s : Setting) (m : Configuration) (rest : List Act) (P : Conf
   pub only : OnlySearch m (configuration_by s m rest)
   pub holds : P (configuration_by s m rest)
 
--- the search has picked this block
+-- the search has picked this block, and counts as one
 pub record HasPicked (found : Found) (n : Configuration) : Type 0 where
   pub picked : (search_of n).picked ≡ Some found.index
   pub read : last_read (search_of n) ≡ Some found.span.first
   pub lost : (search_of n).lost ≡ 0
+  pub counts : searched_once (search_of n).stage ≡ 1
 
 -- the reading of the hint has ended without a block
 pub record HintIsDry (n : Configuration) : Type 0 where

@@ -16,7 +16,7 @@ use Rattle.heap_model.specs.Backend.{back_place, free_runs}
 use Rattle.heap_model.specs.Ranges.{is_of_kind}
 use Rattle.heap_model.specs.Stay.{is_some_of}
 use Rattle.heap_model.specs.CallState.{Configuration, CallState, SpanHistory}
-use Rattle.heap_model.specs.Legal.{may_follow, after, lies_in, has_place, are_used, is_empty, with_status, with_span, on, layer_of, is_run_of}
+use Rattle.heap_model.specs.Legal.{may_follow, after, lies_in, has_place, are_used, is_empty, with_status, with_span, on, layer_of, is_run_of, searched_once}
 use Rattle.heap_model.specs.Alone.{at_rest, by_zero, may_all_come}
 use Rattle.heap_model.proofs.ListLemmas.{filter-insert_span}
 use Rattle.serial_laws.specs.BackCalls.{plain, block_span, block_place, one_more_reserved, Ends, AllocationEnds, ReservingEnds, RefusalEnds}
@@ -65,6 +65,10 @@ gives n p =
     let a = le-leb n (16 * (256 * pages_of n)) (omega arith) in
     let d = eq-eqb (256 * pages_of n) (256 * pages_of n) refl in
     rw (a, p, d) refl
+
+-- a call that does not search leaves the count that its Begin took over
+pub not_searched : (k : CallState) → k.searches + searched_once k.search.stage + 0 ≡ k.searches + searched_once k.search.stage
+not_searched k = omega arith
 
 pub reserves : (s : Setting) (area : Area) → area.reserved < s.limits.segments → (eqb area.reserved area.reserved && ltb area.reserved s.limits.segments) ≡ true
 reserves s area l =
@@ -140,11 +144,6 @@ module _ (lfh vs back large : List Place) (first n : ℕ) (none : in_hand 0 lfh 
 
 ---- The calls
 
-abbrev placing_acts : ℕ → ℕ → List Act
-placing_acts n first =
-    acts.Span first (pages_of n) kinds.Back 0 0 ∷ acts.Place (4096 * first) (256 * pages_of n) layers.Back
-    ∷ acts.Give (4096 * first) n ∷ acts.GiveLock whats.Back ∷ acts.Leave ∷ []
-
 module _ (s : Setting) (back : BackPart) (vs : VsPart) (lfh large : List Place) (words : ℕ → ℕ) (states : ℕ → CallState) (disturbed : ℕ → Bool) (history : SpanHistory) (n : ℕ) (room : 0 < s.limits.callers) (empty : hands (at_rest back vs lfh large words states disturbed history).state 0 ≡ []) (whole : are_used 4096 kinds.Back back.places back.area.spans ≡ true) (used : are_used 4096 kinds.Vs vs.places back.area.spans ≡ true) (paged : is_paged (route_of n) ≡ true) where
   abbrev start : Configuration
   start = at_rest back vs lfh large words states disturbed history
@@ -193,8 +192,10 @@ module _ (s : Setting) (back : BackPart) (vs : VsPart) (lfh large : List Place) 
           places_are = back_after lfh vs.places back.places large first n empty;
           vs = ap (λ (ps : List Place). record { places = ps; active = vs.active; served = vs.served }) (others lfh vs.places back.places large first n empty layers.Vs vs.places refl);
           lfh = others lfh vs.places back.places large first n empty layers.Lfh lfh refl;
+          hints = refl;
           large = others lfh vs.places back.places large first n empty layers.Large large refl;
           words = refl;
+          searches = not_searched (states 0);
         };
       }
 
@@ -248,8 +249,10 @@ module _ (s : Setting) (back : BackPart) (vs : VsPart) (lfh large : List Place) 
           places_are = back_after lfh vs.places back.places large first n empty;
           vs = ap (λ (ps : List Place). record { places = ps; active = vs.active; served = vs.served }) (others lfh vs.places back.places large first n empty layers.Vs vs.places refl);
           lfh = others lfh vs.places back.places large first n empty layers.Lfh lfh refl;
+          hints = refl;
           large = others lfh vs.places back.places large first n empty layers.Large large refl;
           words = refl;
+          searches = not_searched (states 0);
         };
       }
 
@@ -279,7 +282,7 @@ module _ (s : Setting) (back : BackPart) (vs : VsPart) (lfh large : List Place) 
           idle = record { outside = refl; holds = refl; hands = empty; demand = refl };
         };
         at_rest = record { rest = refl; hands = empty; whole = whole; used = used };
-        only = record { area_is = refl; places_are = refl; vs = refl; lfh = refl; large = refl; words = refl };
+        only = record { area_is = refl; places_are = refl; vs = refl; lfh = refl; hints = refl; large = refl; words = refl; searches = not_searched (states 0) };
       }
 
 ---- .. from any configuration at rest

@@ -12,11 +12,11 @@ use Rattle.heap_model.specs.State.{Setting, BackPart, VsPart, Span, Place, has_a
 use Rattle.heap_model.specs.CallState.{Configuration, CallState, SpanHistory}
 use Rattle.heap_model.specs.Ranges.{is_of_kind}
 use Rattle.heap_model.specs.Search.{span_at, begins_at}
-use Rattle.heap_model.specs.Legal.{after, has_place, are_used, is_empty, has_live}
+use Rattle.heap_model.specs.Legal.{after, has_place, are_used, is_empty, has_live, forget_hint}
 use Rattle.heap_model.specs.Alone.{at_rest, by_zero}
 use Rattle.heap_model.proofs.ListLemmas.{filter-remove_found}
-use Rattle.serial_laws.specs.BackCalls.{Ends, live_place, area_without, places_without, FreeEnds, SizeEnds, IsNotLive, NotLiveEnds}
-use Rattle.serial_laws.proofs.Allocate.{come, begins, four_parts}
+use Rattle.serial_laws.specs.BackCalls.{EndsAndHints, Ends, live_place, area_without, places_without, FreeEnds, SizeEnds, IsNotLive, NotLiveEnds}
+use Rattle.serial_laws.proofs.Allocate.{come, begins, not_searched, four_parts}
 use Rattle.serial_laws.proofs.Found.{find_front, of_kind, none_left, take, taken, in_hand_after, dropped}
 
 ---- The calls
@@ -39,7 +39,7 @@ module _ (s : Setting) (back : BackPart) (vs : VsPart) (lfh large : List Place) 
 
   frees_it : (a granules size : ℕ) (x : Span) → find (has_address a) back.places ≡ Some (live_place a granules size) → span_at back.area (a / 4096) ≡ Some x → x.kind ≡ kinds.Back →
       has_place 4096 (places_without back.places a) x ≡ false → are_used 4096 kinds.Back (places_without back.places a) (area_without back.area a).spans ≡ true →
-      Ends s start (calls.Free a) replies.Done (area_without back.area a) (places_without back.places a)
+      EndsAndHints s start (calls.Free a) replies.Done (area_without back.area a) (places_without back.places a) (forget_hint (a / 4096) history.hints)
   frees_it a granules size x h spanned kind unused still =
       let m1 = after s start (by_zero (acts.Begin (calls.Free a))) in
       let m2 = after s m1 (by_zero acts.Enter) in
@@ -83,8 +83,10 @@ module _ (s : Setting) (back : BackPart) (vs : VsPart) (lfh large : List Place) 
           places_are = rw (found, hand, gone) refl;
           vs = rw (found, hand) refl;
           lfh = rw (found, hand) refl;
+          hints = refl;
           large = rw (found, hand) refl;
           words = refl;
+          searches = not_searched (states 0);
         };
       }
     where
@@ -122,7 +124,7 @@ module _ (s : Setting) (back : BackPart) (vs : VsPart) (lfh large : List Place) 
           idle = record { outside = refl; holds = refl; hands = empty; demand = refl };
         };
         at_rest = record { rest = refl; hands = empty; whole = whole; used = used };
-        only = record { area_is = refl; places_are = refl; vs = refl; lfh = refl; large = refl; words = refl };
+        only = record { area_is = refl; places_are = refl; vs = refl; lfh = refl; hints = refl; large = refl; words = refl; searches = not_searched (states 0) };
       }
 
   -- an address at which nothing lives
@@ -147,7 +149,7 @@ module _ (s : Setting) (back : BackPart) (vs : VsPart) (lfh large : List Place) 
           idle = record { outside = refl; holds = refl; hands = empty; demand = refl };
         };
         at_rest = record { rest = refl; hands = empty; whole = whole; used = used };
-        only = record { area_is = refl; places_are = refl; vs = refl; lfh = refl; large = refl; words = refl };
+        only = record { area_is = refl; places_are = refl; vs = refl; lfh = refl; hints = refl; large = refl; words = refl; searches = not_searched (states 0) };
       }
 
   sizes_none : (a : ℕ) → IsNotLive start.state a → Ends s start (calls.Size a) replies.NotLive back.area back.places
@@ -168,14 +170,14 @@ module _ (s : Setting) (back : BackPart) (vs : VsPart) (lfh large : List Place) 
           idle = record { outside = refl; holds = refl; hands = empty; demand = refl };
         };
         at_rest = record { rest = refl; hands = empty; whole = whole; used = used };
-        only = record { area_is = refl; places_are = refl; vs = refl; lfh = refl; large = refl; words = refl };
+        only = record { area_is = refl; places_are = refl; vs = refl; lfh = refl; hints = refl; large = refl; words = refl; searches = not_searched (states 0) };
       }
 
 ---- .. from any configuration at rest
 
 pub frees : FreeEnds
 frees s m a granules size x room r h spanned kind unused still =
-    let E : Configuration → Type 0 = λ m. Ends s m (calls.Free a) replies.Done (area_without m.state.back.area a) (places_without m.state.back.places a) in
+    let E : Configuration → Type 0 = λ m. EndsAndHints s m (calls.Free a) replies.Done (area_without m.state.back.area a) (places_without m.state.back.places a) (forget_hint (a / 4096) m.now.span_history.hints) in
     subst E (sym r.rest) (frees_it s m.state.back m.state.vs m.state.lfh m.state.large m.state.words m.now.calls m.now.disturbed m.now.span_history room r.hands r.whole r.used a granules size x h spanned kind unused still)
 
 pub sizes : SizeEnds

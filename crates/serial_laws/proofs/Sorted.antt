@@ -57,9 +57,9 @@ or_false : (a b : Bool) → (a || b) ≡ false → (a ≡ false) × (b ≡ false
 or_false true b h = absurd (let z : ⊥ = cc in z)
 or_false false b h = (refl, h)
 
-none_found : (test : Place → Bool) (ps : List Place) → list_any test ps ≡ false → find test ps ≡ None
+pub none_found : {A : Type 0} (test : A → Bool) (xs : List A) → list_any test xs ≡ false → find test xs ≡ None
 none_found test [] h = refl
-none_found test (p ∷ ps) h = let k = or_false (test p) (list_any test ps) h in let e = k.0 in rw e (none_found test ps k.1)
+none_found test (x ∷ xs) h = let k = or_false (test x) (list_any test xs) h in let e = k.0 in rw e (none_found test xs k.1)
 
 -- a list with one place inserted passes as the list with it in front does
 one_inserted : (test : Place → Bool) (p : Place) (ps : List Place) → OnlyOne test (insert_place p ps) → OnlyOne test (p ∷ ps)

@@ -12,7 +12,7 @@ use Rattle.heap_model.specs.Legal.{may_follow, after}
 use Rattle.heap_model.specs.History.{configuration_after, may_all_follow, first_configuration, is_nothing}
 use Rattle.heap_model.specs.Alone.{alone, by_zero, configuration_by, may_all_come}
 use Rattle.heap_model.specs.Serial.{IsIdle, AreAnswered, serial_history}
-use Rattle.serial_laws.specs.OneCall.{Completes, CompleteInTurn, end_of, InTurnIsSerial}
+use Rattle.serial_laws.specs.OneCall.{CompleteInTurn, end_of, InTurnIsSerial}
 
 pub configuration-append : (s : Setting) (m : Configuration) (es fs : List Entry) → configuration_after s m (es ++ fs) ≡ configuration_after s (configuration_after s m es) fs
 configuration-append s m [] fs = refl
@@ -84,15 +84,3 @@ serial limits seed calls replies rests h =
       idle = idle;
       ends = ap (λ (n : Configuration). n.state) (sym k.to);
     }
-
--- one call more
-pub turns-push : (s : Setting) (m : Configuration) (cs : List Call) (rs : List Reply) (xs : List (List Act)) (c : Call) (r : Reply) (x : List Act) → CompleteInTurn s m cs rs xs → Completes s (end_of s m cs xs) c r x →
-    CompleteInTurn s m (cs ++ c ∷ []) (rs ++ r ∷ []) (xs ++ x ∷ []) × (end_of s m (cs ++ c ∷ []) (xs ++ x ∷ []) ≡ configuration_by s (end_of s m cs xs) (acts.Begin c ∷ x))
-turns-push s m [] [] [] c r x h a = ((a, tt), refl)
-turns-push s m [] [] (y ∷ xs) c r x h a = absurd h
-turns-push s m [] (q ∷ rs) xs c r x h a = absurd h
-turns-push s m (d ∷ cs) [] xs c r x h a = absurd h
-turns-push s m (d ∷ cs) (q ∷ rs) [] c r x h a = absurd h
-turns-push s m (d ∷ cs) (q ∷ rs) (y ∷ xs) c r x h a =
-    let rest = turns-push s (configuration_by s m (acts.Begin d ∷ y)) cs rs xs c r x h.1 a in
-    ((h.0, rest.0), rest.1)

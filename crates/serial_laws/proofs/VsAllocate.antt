@@ -25,7 +25,7 @@ use Rattle.serial_laws.specs.BackCalls.{plain, one_more_reserved}
 use Rattle.serial_laws.specs.VsCalls.{EndsVs, IsForVs, vs_block, vs_span_for, GapAllocationEnds, IsInNewSpan, SpanAllocationEnds, ReservingSpanEnds, VsRefusalEnds}
 use Rattle.serial_laws.proofs.Places.{all_inserted, all_weaker}
 use Rattle.serial_laws.proofs.NewSpan.{least_fits, lies_in_new_span}
-use Rattle.serial_laws.proofs.Allocate.{come, begins, four_parts, reserves}
+use Rattle.serial_laws.proofs.Allocate.{come, begins, not_searched, four_parts, reserves}
 
 ---- The granules that a place takes of a gap
 
@@ -234,8 +234,10 @@ module _ (s : Setting) (back : BackPart) (vs : VsPart) (lfh large : List Place) 
           vs_is = ap (λ (ps : List Place). record { places = ps; active = vs.active; served = serve (bucket_of n) vs.served }) (vs_after lfh vs.places back.places large r n empty);
           back = others lfh vs.places back.places large r n empty layers.Back back.places refl;
           lfh = others lfh vs.places back.places large r n empty layers.Lfh lfh refl;
+          hints = refl;
           large = others lfh vs.places back.places large r n empty layers.Large large refl;
           words = refl;
+          searches = not_searched (states 0);
         };
       }
 
@@ -290,8 +292,10 @@ module _ (s : Setting) (back : BackPart) (vs : VsPart) (lfh large : List Place) 
           vs_is = ap (λ (ps : List Place). record { places = ps; active = vs.active; served = serve (bucket_of n) vs.served }) (vs_after lfh vs.places back.places large r n empty);
           back = others lfh vs.places back.places large r n empty layers.Back back.places refl;
           lfh = others lfh vs.places back.places large r n empty layers.Lfh lfh refl;
+          hints = refl;
           large = others lfh vs.places back.places large r n empty layers.Large large refl;
           words = refl;
+          searches = not_searched (states 0);
         };
       }
 
@@ -352,8 +356,10 @@ module _ (s : Setting) (back : BackPart) (vs : VsPart) (lfh large : List Place) 
           vs_is = ap (λ (ps : List Place). record { places = ps; active = vs.active; served = serve (bucket_of n) vs.served }) (vs_after lfh vs.places back.places large r n empty);
           back = others lfh vs.places back.places large r n empty layers.Back back.places refl;
           lfh = others lfh vs.places back.places large r n empty layers.Lfh lfh refl;
+          hints = refl;
           large = others lfh vs.places back.places large r n empty layers.Large large refl;
           words = refl;
+          searches = not_searched (states 0);
         };
       }
 
@@ -389,7 +395,7 @@ module _ (s : Setting) (back : BackPart) (vs : VsPart) (lfh large : List Place) 
           idle = record { outside = refl; holds = refl; hands = empty; demand = refl };
         };
         at_rest = record { rest = refl; hands = empty; whole = whole; used = used };
-        only = record { area_is = refl; vs_is = refl; back = refl; lfh = refl; large = refl; words = refl };
+        only = record { area_is = refl; vs_is = refl; back = refl; lfh = refl; hints = refl; large = refl; words = refl; searches = not_searched (states 0) };
       }
 
 ---- .. from any configuration at rest

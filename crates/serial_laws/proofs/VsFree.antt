@@ -12,11 +12,11 @@ use Rattle.heap_model.specs.State.{Setting, BackPart, VsPart, Span, Place, has_a
 use Rattle.heap_model.specs.Ranges.{is_of_kind}
 use Rattle.heap_model.specs.CallState.{Configuration, CallState, SpanHistory}
 use Rattle.heap_model.specs.Search.{span_at, begins_at}
-use Rattle.heap_model.specs.Legal.{after, has_place, are_used, is_empty}
+use Rattle.heap_model.specs.Legal.{after, has_place, are_used, is_empty, forget_hint}
 use Rattle.heap_model.specs.Alone.{at_rest, by_zero}
 use Rattle.heap_model.proofs.ListLemmas.{filter-remove_found}
-use Rattle.serial_laws.specs.VsCalls.{EndsVs, live_vs, vs_without, area_closed, VsFreeEnds, VsFreeSpanEnds, VsSizeEnds}
-use Rattle.serial_laws.proofs.Allocate.{come, begins, four_parts}
+use Rattle.serial_laws.specs.VsCalls.{EndsVsAndHints, EndsVs, live_vs, vs_without, area_closed, VsFreeEnds, VsFreeSpanEnds, VsSizeEnds}
+use Rattle.serial_laws.proofs.Allocate.{come, begins, not_searched, four_parts}
 use Rattle.serial_laws.proofs.Found.{find_front, of_kind, none_left, take, drop, taken, in_hand_after, dropped}
 
 module _ (s : Setting) (back : BackPart) (vs : VsPart) (lfh large : List Place) (words : ℕ → ℕ) (states : ℕ → CallState) (disturbed : ℕ → Bool) (history : SpanHistory) (room : 0 < s.limits.callers) (empty : hands (at_rest back vs lfh large words states disturbed history).state 0 ≡ []) (whole : are_used 4096 kinds.Back back.places back.area.spans ≡ true) (used : are_used 4096 kinds.Vs vs.places back.area.spans ≡ true) (from granules size : ℕ) (h : find (has_address (from + 16)) vs.places ≡ Some (live_vs from granules size)) where
@@ -93,15 +93,17 @@ module _ (s : Setting) (back : BackPart) (vs : VsPart) (lfh large : List Place) 
           vs_is = rw (found, hand, out) refl;
           back = rw (found, hand) refl;
           lfh = rw (found, hand) refl;
+          hints = refl;
           large = rw (found, hand) refl;
           words = refl;
+          searches = not_searched (states 0);
         };
       }
 
   -- .. with its span
   frees_with : (x : Span) → span_at back.area x.first ≡ Some x → x.kind ≡ kinds.Vs → has_place 4096 (vs_without vs.places a) x ≡ false →
       are_used 4096 kinds.Vs (vs_without vs.places a) (area_closed back.area x.first).spans ≡ true →
-      EndsVs s start (calls.Free a) replies.Done (area_closed back.area x.first) (vs_without vs.places a) vs.served
+      EndsVsAndHints s start (calls.Free a) replies.Done (area_closed back.area x.first) (vs_without vs.places a) vs.served (forget_hint x.first history.hints)
   frees_with x spanned kind unused still =
       let m1 = after s start (by_zero (acts.Begin (calls.Free a))) in
       let m2 = after s m1 (by_zero acts.Enter) in
@@ -148,8 +150,10 @@ module _ (s : Setting) (back : BackPart) (vs : VsPart) (lfh large : List Place) 
           vs_is = rw (found, hand, out) refl;
           back = rw (found, hand) refl;
           lfh = rw (found, hand) refl;
+          hints = refl;
           large = rw (found, hand) refl;
           words = refl;
+          searches = not_searched (states 0);
         };
       }
 
@@ -179,7 +183,7 @@ module _ (s : Setting) (back : BackPart) (vs : VsPart) (lfh large : List Place) 
           idle = record { outside = refl; holds = refl; hands = empty; demand = refl };
         };
         at_rest = record { rest = refl; hands = empty; whole = whole; used = used };
-        only = record { area_is = refl; vs_is = refl; back = refl; lfh = refl; large = refl; words = refl };
+        only = record { area_is = refl; vs_is = refl; back = refl; lfh = refl; hints = refl; large = refl; words = refl; searches = not_searched (states 0) };
       }
 
 ---- .. from any configuration at rest
@@ -191,7 +195,7 @@ vs_frees s m from granules size room r h still =
 
 pub vs_frees_span : VsFreeSpanEnds
 vs_frees_span s m from granules size x room r h spanned kind unused still =
-    let E : Configuration → Type 0 = λ m. EndsVs s m (calls.Free (from + 16)) replies.Done (area_closed m.state.back.area x.first) (vs_without m.state.vs.places (from + 16)) m.state.vs.served in
+    let E : Configuration → Type 0 = λ m. EndsVsAndHints s m (calls.Free (from + 16)) replies.Done (area_closed m.state.back.area x.first) (vs_without m.state.vs.places (from + 16)) m.state.vs.served (forget_hint x.first m.now.span_history.hints) in
     subst E (sym r.rest) (frees_with s m.state.back m.state.vs m.state.lfh m.state.large m.state.words m.now.calls m.now.disturbed m.now.span_history room r.hands r.whole r.used from granules size h x spanned kind unused still)
 
 pub vs_sizes : VsSizeEnds

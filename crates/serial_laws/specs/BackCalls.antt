@@ -1,5 +1,5 @@
 -- What one call by the back end does, from a configuration at rest.
-use Rattle.std.specs.Prelude.{◌≡◌, ℕ, ◌+◌, ◌*◌, ◌/◌, ◌<◌, true, false, ◌||◌, nat_lt, List, ◌∷◌, Some, None}
+use Rattle.std.specs.Prelude.{◌≡◌, ℕ, ◌+◌, ◌*◌, ◌/◌, ◌<◌, true, false, ◌||◌, nat_lt, List, ◌∷◌, Option, Some, None}
 use Rattle.std.specs.List.{find, list_all}
 use Rattle.heap_model.specs.declared.Call.{Call}
 use Rattle.heap_model.specs.declared.Call.TheVariants as calls
@@ -15,9 +15,9 @@ use Rattle.heap_model.specs.State.{Setting, State, Area, Span, Place, Live, has_
 use Rattle.heap_model.specs.Backend.{free_runs, back_place}
 use Rattle.heap_model.specs.CallState.{Configuration}
 use Rattle.heap_model.specs.Search.{begins_at, span_at}
-use Rattle.heap_model.specs.Legal.{with_span, is_run_of, has_place, are_used, has_live}
+use Rattle.heap_model.specs.Legal.{with_span, is_run_of, has_place, are_used, has_live, forget_hint}
 use Rattle.heap_model.specs.Alone.{configuration_by}
-use Rattle.serial_laws.specs.OneCall.{IsAtRest, Completes}
+use Rattle.serial_laws.specs.OneCall.{IsAtRest, searches_of, Completes}
 
 abbrev pub plain : Flags
 plain = record { zero = false; in_place = false }
@@ -33,21 +33,27 @@ block_place first n = record { start = 4096 * first; granules = 256 * pages_of n
 abbrev pub one_more_reserved : Area → Area
 one_more_reserved a = record { reserved = a.reserved + 1; committed = a.committed; spans = a.spans }
 
--- Of the heap, the part of the back end alone has changed, to this one.
-pub record OnlyBack (old new : Configuration) (area : Area) (places : List Place) : Type 0 where
+-- Of the heap, the part of the back end and the hints alone have changed, to these; nothing was searched.
+pub record OnlyBackAndHints (old new : Configuration) (area : Area) (places : List Place) (left : ℕ → ℕ → Option ℕ) : Type 0 where
   pub area_is : new.state.back.area ≡ area
   pub places_are : new.state.back.places ≡ places
   pub vs : new.state.vs ≡ old.state.vs
   pub lfh : new.state.lfh ≡ old.state.lfh
+  pub hints : new.now.span_history.hints ≡ left
   pub large : new.state.large ≡ old.state.large
   pub words : new.state.words ≡ old.state.words
+  pub searches : searches_of new ≡ searches_of old
 
--- Some acts complete the call with this reply, leave all at rest, and change the back end to this area and these places.
-pub record Ends (s : Setting) (m : Configuration) (call : Call) (reply : Reply) (area : Area) (places : List Place) : Type 0 where
+-- Some acts complete the call with this reply, leave all at rest, and change the back end to this area and these places, and leave these hints.
+pub record EndsAndHints (s : Setting) (m : Configuration) (call : Call) (reply : Reply) (area : Area) (places : List Place) (left : ℕ → ℕ → Option ℕ) : Type 0 where
   pub rest : List Act
   pub completes : Completes s m call reply rest
   pub at_rest : IsAtRest (configuration_by s m (acts.Begin call ∷ rest))
-  pub only : OnlyBack m (configuration_by s m (acts.Begin call ∷ rest)) area places
+  pub only : OnlyBackAndHints m (configuration_by s m (acts.Begin call ∷ rest)) area places left
+
+-- .. and keep all hints
+abbrev pub Ends : Setting → Configuration → Call → Reply → Area → List Place → Type 0
+Ends s m call reply area places = EndsAndHints s m call reply area places m.now.span_history.hints
 
 -- An allocation by the back end goes to the place of its pages, in a segment that is reserved.
 abbrev pub AllocationEnds : Type 0
@@ -81,12 +87,14 @@ abbrev pub places_without : List Place → ℕ → List Place
 places_without ps a = remove_found (is_live_at a) ps
 
 -- A free of a block of the back end takes its place and its span away, where no other block lies in this span and the others keep theirs.
+-- A hint that named the span goes with it.
 abbrev pub FreeEnds : Type 0
 FreeEnds = (s : Setting) (m : Configuration) (a granules size : ℕ) (x : Span) → 0 < s.limits.callers → IsAtRest m →
     find (has_address a) m.state.back.places ≡ Some (live_place a granules size) →
     span_at m.state.back.area (a / 4096) ≡ Some x → x.kind ≡ kinds.Back → has_place page_bytes (places_without m.state.back.places a) x ≡ false →
     are_used page_bytes kinds.Back (places_without m.state.back.places a) (area_without m.state.back.area a).spans ≡ true →
-    Ends s m (calls.Free a) replies.Done (area_without m.state.back.area a) (places_without m.state.back.places a)
+    EndsAndHints s m (calls.Free a) replies.Done (area_without m.state.back.area a) (places_without m.state.back.places a)
+    (forget_hint (a / 4096) m.now.span_history.hints)
 
 -- A question for the size of a block of the back end finds it, and changes nothing.
 abbrev pub SizeEnds : Type 0

@@ -1,5 +1,5 @@
 -- Calls of one caller, one after another, each from the configuration that the one before left.
-use Rattle.std.specs.Prelude.{◌≡◌, ℕ, true, List, [], ◌∷◌}
+use Rattle.std.specs.Prelude.{◌≡◌, ℕ, ◌+◌, true, List, [], ◌∷◌}
 use Rattle.heap_model.specs.declared.Call.{Call}
 use Rattle.heap_model.specs.declared.Act.{Act}
 use Rattle.heap_model.specs.declared.Act.TheVariants as acts
@@ -8,7 +8,7 @@ use Rattle.heap_model.specs.declared.Reply.{Reply}
 use Rattle.heap_model.specs.State.{Setting, hands}
 use Rattle.heap_model.specs.CallState.{Configuration}
 use Rattle.heap_model.specs.declared.What.TheVariants as whats
-use Rattle.heap_model.specs.Legal.{leaves_whole}
+use Rattle.heap_model.specs.Legal.{leaves_whole, searched_once}
 use Rattle.heap_model.specs.History.{first_configuration}
 use Rattle.heap_model.specs.Alone.{alone, configuration_by, may_all_come, at_rest}
 use Rattle.heap_model.specs.Serial.{IsIdle, IsAnswered, IsSerial}
@@ -20,6 +20,10 @@ pub record IsAtRest (m : Configuration) : Type 0 where
   pub hands : hands m.state 0 ≡ []
   pub whole : leaves_whole m.state whats.Back ≡ true
   pub used : leaves_whole m.state whats.Vs ≡ true
+
+-- how many calls of caller 0 have searched the low-fragmentation front end, each with one draw
+abbrev pub searches_of : Configuration → ℕ
+searches_of m = (m.now.calls 0).searches + searched_once (m.now.calls 0).search.stage
 
 -- From this configuration the acts behind the Begin of this call may come, and end it with this reply.
 pub record Completes (s : Setting) (m : Configuration) (call : Call) (reply : Reply) (rest : List Act) : Type 0 where

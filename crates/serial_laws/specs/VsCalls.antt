@@ -1,5 +1,5 @@
 -- What one call by the variable-size layer does, from a configuration at rest.
-use Rattle.std.specs.Prelude.{◌≡◌, ℕ, ◌+◌, ◌*◌, ◌/◌, ◌<◌, true, false, ◌||◌, nat_lt, List, ◌∷◌, Some, None}
+use Rattle.std.specs.Prelude.{◌≡◌, ℕ, ◌+◌, ◌*◌, ◌/◌, ◌<◌, true, false, ◌||◌, nat_lt, List, ◌∷◌, Option, Some, None}
 use Rattle.std.specs.List.{find, list_all}
 use Rattle.heap_model.specs.declared.Call.{Call}
 use Rattle.heap_model.specs.declared.Call.TheVariants as calls
@@ -18,26 +18,33 @@ use Rattle.heap_model.specs.Ranges.{gaps, gaps_of, vs_spans, vs_place}
 use Rattle.heap_model.specs.Stay.{for_some}
 use Rattle.heap_model.specs.CallState.{Configuration}
 use Rattle.heap_model.specs.Search.{begins_at, span_at}
-use Rattle.heap_model.specs.Legal.{with_span, is_run_of, has_place, are_used, goes_to_lfh, serve}
+use Rattle.heap_model.specs.Legal.{with_span, is_run_of, has_place, are_used, goes_to_lfh, serve, forget_hint}
 use Rattle.heap_model.specs.Alone.{configuration_by}
-use Rattle.serial_laws.specs.OneCall.{IsAtRest, Completes}
+use Rattle.serial_laws.specs.OneCall.{IsAtRest, searches_of, Completes}
 use Rattle.serial_laws.specs.BackCalls.{plain, one_more_reserved}
 
--- Of the heap, the spans and the part of this layer alone have changed, to these; no bucket has become active.
-pub record OnlyVs (old new : Configuration) (area : Area) (places : List Place) (served : ℕ → ℕ) : Type 0 where
+-- Of the heap, the spans, the part of this layer and the hints alone have changed, to these; no bucket has become active,
+-- and nothing was searched.
+pub record OnlyVsAndHints (old new : Configuration) (area : Area) (places : List Place) (served : ℕ → ℕ) (left : ℕ → ℕ → Option ℕ) : Type 0 where
   pub area_is : new.state.back.area ≡ area
   pub vs_is : new.state.vs ≡ record { places = places; active = old.state.vs.active; served = served }
   pub back : new.state.back.places ≡ old.state.back.places
   pub lfh : new.state.lfh ≡ old.state.lfh
+  pub hints : new.now.span_history.hints ≡ left
   pub large : new.state.large ≡ old.state.large
   pub words : new.state.words ≡ old.state.words
+  pub searches : searches_of new ≡ searches_of old
 
--- Some acts complete the call with this reply, leave all at rest, and change the layer so.
-pub record EndsVs (s : Setting) (m : Configuration) (call : Call) (reply : Reply) (area : Area) (places : List Place) (served : ℕ → ℕ) : Type 0 where
+-- Some acts complete the call with this reply, leave all at rest, change the layer so, and leave these hints.
+pub record EndsVsAndHints (s : Setting) (m : Configuration) (call : Call) (reply : Reply) (area : Area) (places : List Place) (served : ℕ → ℕ) (left : ℕ → ℕ → Option ℕ) : Type 0 where
   pub rest : List Act
   pub completes : Completes s m call reply rest
   pub at_rest : IsAtRest (configuration_by s m (acts.Begin call ∷ rest))
-  pub only : OnlyVs m (configuration_by s m (acts.Begin call ∷ rest)) area places served
+  pub only : OnlyVsAndHints m (configuration_by s m (acts.Begin call ∷ rest)) area places served left
+
+-- .. and keep all hints
+abbrev pub EndsVs : Setting → Configuration → Call → Reply → Area → List Place → (ℕ → ℕ) → Type 0
+EndsVs s m call reply area places served = EndsVsAndHints s m call reply area places served m.now.span_history.hints
 
 -- a block of n bytes is for this layer: its size is, and its bucket is neither active nor due
 pub record IsForVs (v : VsPart) (n : ℕ) : Type 0 where
@@ -105,13 +112,14 @@ VsFreeEnds = (s : Setting) (m : Configuration) (start granules size : ℕ) → 0
 abbrev pub area_closed : Area → ℕ → Area
 area_closed a first = record { reserved = a.reserved; committed = a.committed; spans = remove_found (begins_at first) a.spans }
 
--- .. and its span with it, where it was the last one of this.
+-- .. and its span with it, where it was the last one of this. A hint that named the span goes too.
 abbrev pub VsFreeSpanEnds : Type 0
 VsFreeSpanEnds = (s : Setting) (m : Configuration) (start granules size : ℕ) (x : Span) → 0 < s.limits.callers → IsAtRest m →
     find (has_address (start + 16)) m.state.vs.places ≡ Some (live_vs start granules size) →
     span_at m.state.back.area x.first ≡ Some x → x.kind ≡ kinds.Vs → has_place page_bytes (vs_without m.state.vs.places (start + 16)) x ≡ false →
     are_used page_bytes kinds.Vs (vs_without m.state.vs.places (start + 16)) (area_closed m.state.back.area x.first).spans ≡ true →
-    EndsVs s m (calls.Free (start + 16)) replies.Done (area_closed m.state.back.area x.first) (vs_without m.state.vs.places (start + 16)) m.state.vs.served
+    EndsVsAndHints s m (calls.Free (start + 16)) replies.Done (area_closed m.state.back.area x.first) (vs_without m.state.vs.places (start + 16)) m.state.vs.served
+    (forget_hint x.first m.now.span_history.hints)
 
 -- A question for the size of a block finds it, and changes nothing.
 abbrev pub VsSizeEnds : Type 0
