@@ -18,10 +18,12 @@ use Rattle.claim_rule.specs.Shown.{flag, bitmap_word, size_word, starts_in, tag_
 use Rattle.lfh_buckets.specs.Blocks.{IsBucket}
 use Rattle.lfh_claims.specs.Kept.{LfhKept, LfhPart, StandsFor, IsSubsegment, IsBlockOf, no_part, size_at, with_active, HaveOwnStarts, with_places, without_block, with_size}
 use Rattle.lfh_claims.proofs.Regions.{other_word, outside, inside}
-use Rattle.lfh_claims.proofs.Starts.{begins, found_by_start, removed_by_start, changed_by_start, any_removed_other, any_removed_same, none_found, found_removed_other, own_removed, any_changed, found_changed_other, found_changed_same, own_changed}
+use Rattle.lfh_claims.proofs.Starts.{begins, found_by_start, removed_by_start, changed_by_start, any_removed_other, any_removed_same, found_removed_other, own_removed, any_changed, found_changed_other, found_changed_same, own_changed}
 use Rattle.lfh_claims.proofs.Bits.{cleared, same_word_of, word_cleared}
-use Rattle.lfh_claims.proofs.Seats.{Seat, seat, seat_of, one_block, begins_there, bucket_is, all_of_lfh}
+use Rattle.lfh_claims.proofs.Seats.{Seat, seat, seat_of, one_block, bucket_is, all_of_lfh}
 use Rattle.lfh_buckets.proofs.BlockLemmas.{few_blocks}
+use Rattle.search_laws.proofs.Passes.{found_there}
+use Rattle.serial_laws.proofs.Sorted.{none_found}
 
 abbrev pub with_word : LfhKept → ℕ → ℕ → LfhKept
 with_word k i v = record { limits = k.limits; words = slice_set k.words i v }
@@ -45,7 +47,7 @@ new_stands l v = record {
   bitmaps = λ k m. get_or-replicate (word_count l) (2182 + 256 * l.segments + k) 0 0 (omega (arith, m, v.some_segments));
   sizes = λ k m. get_or-replicate (word_count l) (2182 + 1280 * l.segments + k) 0 0 (omega (arith, m, v.some_segments));
   tags = λ page m. get_or-replicate (word_count l) (2182 + page) 0 0 (omega (arith, m, v.some_segments));
-  shown = λ b slot h g m. get_or-replicate (word_count l) (118 + 16 * b + slot) 0 0 (omega (arith, h, g, m, v.some_segments));
+  shown = λ b slot h g m. get_or-replicate (word_count l) (134 + 16 * (b - 1) + slot) 0 0 (omega (arith, h, g, m, v.some_segments));
 }
 
 ---- The size of a block
@@ -112,7 +114,7 @@ active_stands k t b at bucket e h =
       bitmaps = outside k.words (bitmaps_region k.limits) (λ i. bitmap_word t.places t.spans (i / 4) (i % 4)) at 1 (λ j l f. omega arith) h.bitmaps;
       sizes = outside k.words (sizes_region k.limits) (size_word t.places) at 1 (λ j l f. omega arith) h.sizes;
       tags = λ page l. other_word k.words at 1 (2182 + page) (λ f. omega arith) ∙ h.tags page l;
-      shown = λ c slot l m n. other_word k.words at 1 (118 + 16 * c + slot) (λ f. omega arith) ∙ h.shown c slot l m n;
+      shown = λ c slot l m n. other_word k.words at 1 (134 + 16 * (c - 1) + slot) (λ f. omega arith) ∙ h.shown c slot l m n;
     }
   where
     at_bucket : (n : ℕ) → n ≡ b → flag (updated t.active b true n) ≡ 1
@@ -143,7 +145,7 @@ size_stands k t addr size at p found room most e h =
           inside k.words (sizes_region k.limits) (size_word t.places) (size_word (with_size t addr size).places) at (size + 1) (addr / 16) e
           (subst (λ (n : ℕ). at < n) (sym h.as_long) (omega arith)) (sym here) (λ j l n. sym (elsewhere j n)) h.sizes;
       tags = λ page l. other_word k.words at (size + 1) (2182 + page) (λ f. omega arith) ∙ h.tags page l;
-      shown = λ c slot l m n. other_word k.words at (size + 1) (118 + 16 * c + slot) (λ f. omega arith) ∙ h.shown c slot l m n;
+      shown = λ c slot l m n. other_word k.words at (size + 1) (134 + 16 * (c - 1) + slot) (λ f. omega arith) ∙ h.shown c slot l m n;
     }
   where
     s : Seat k t addr p
@@ -296,10 +298,10 @@ module _ (k : LfhKept) (t : LfhPart) (addr : ℕ) (p : Place) (h : StandsFor k t
           other (omega (arith, number, at, j)))))
 
   word_here : bitmap_word t.places t.spans x.first (s.block.index / 64) ≡ bits_of t.places x (s.block.index / 64)
-  word_here = ap (λ o. unwrap_or (option_map (λ y. bits_of t.places y (s.block.index / 64)) o) 0) (begins_there t.spans x h.in_order s.block.there)
+  word_here = ap (λ o. unwrap_or (option_map (λ y. bits_of t.places y (s.block.index / 64)) o) 0) (found_there 0 t.spans x h.in_order s.block.there)
 
   word_there : bitmap_word others t.spans x.first (s.block.index / 64) ≡ bits_of others x (s.block.index / 64)
-  word_there = ap (λ o. unwrap_or (option_map (λ y. bits_of others y (s.block.index / 64)) o) 0) (begins_there t.spans x h.in_order s.block.there)
+  word_there = ap (λ o. unwrap_or (option_map (λ y. bits_of others y (s.block.index / 64)) o) 0) (found_there 0 t.spans x h.in_order s.block.there)
 
   pub few : s.block.index / 64 < 4
   few = let l = s.block.below in let n = (few_blocks x.bucket (bucket_is k.limits x s.sub)).1 in omega arith
@@ -380,8 +382,8 @@ module _ (k : LfhKept) (t : LfhPart) (addr : ℕ) (p : Place) (h : StandsFor k t
               other_word words size_at 0 (2182 + page) (λ f. omega (arith, l, f, behind))
               ∙ other_word k.words at v (2182 + page) (λ f. omega (arith, l, f, behind_tags)) ∙ h.tags page l;
           shown = λ c slot l m n.
-              other_word words size_at 0 (118 + 16 * c + slot) (λ f. omega (arith, l, m, n, f, behind))
-              ∙ other_word k.words at v (118 + 16 * c + slot) (λ f. omega (arith, l, m, n, f, behind_tags)) ∙ h.shown c slot l m n;
+              other_word words size_at 0 (134 + 16 * (c - 1) + slot) (λ f. omega (arith, l, m, n, f, behind))
+              ∙ other_word k.words at v (134 + 16 * (c - 1) + slot) (λ f. omega (arith, l, m, n, f, behind_tags)) ∙ h.shown c slot l m n;
         }
           where
             none_here : size_word others (addr / 16) ≡ 0

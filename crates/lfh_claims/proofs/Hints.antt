@@ -1,5 +1,5 @@
 -- The subsegment that the hint names.
-use Rattle.std.proofs.Common.{◌≡◌, ℕ, ◌+◌, ◌*◌, ◌<◌, ◌≤◌, List, [], ◌∷◌, Option, Some, None, inl, inr, refl, sym, ap, subst, ◌∙◌, arith}
+use Rattle.std.proofs.Common.{◌≡◌, ℕ, ◌+◌, ◌-◌, ◌*◌, ◌<◌, ◌≤◌, List, [], ◌∷◌, Option, Some, None, inl, inr, refl, sym, ap, subst, ◌∙◌, arith}
 use Rattle.std.specs.Prelude.{slice_index, option_map, unwrap_or, filter}
 use Rattle.std.specs.Option.{option_or}
 use Rattle.std.proofs.lemmas.Bool.{ne_eqb, cases_eq}
@@ -11,15 +11,17 @@ use Rattle.heap_soundness.specs.Sound.{IsOneOf}
 use Rattle.heap_soundness.proofs.Lists.{all_at}
 use Rattle.search_laws.specs.Reading.{found_of, pass_found}
 use Rattle.search_laws.proofs.Passes.{alone_there}
+use Rattle.search_laws.proofs.Filtered.{none_kept}
 use Rattle.lfh_buckets.specs.Blocks.{IsBucket}
 use Rattle.lfh_claims.specs.Kept.{LfhPart, StandsFor, IsSubsegment, spans_for, hint_of}
 use Rattle.lfh_claims.specs.Takes.{hinted_span, at_hint}
-use Rattle.lfh_claims.specs.Scan.{bits_in, key_of, scan, seat_of}
-use Rattle.lfh_claims.proofs.Passes.{xs_in_order, in_all, scan_is, none_kept}
+use Rattle.lfh_claims.specs.Scan.{search_key, scan, id_of}
+use Rattle.table_words.specs.Told.{bits_in}
+use Rattle.lfh_claims.proofs.Passes.{xs_in_order, in_all, scan_is}
 
 module _ (l : Limits) (words : List ℕ) (t : LfhPart) (h : StandsFor (record { limits = l; words = words }) t) (b s : ℕ) (bucket : IsBucket b) (slot : s < 16) where
   abbrev w : ℕ
-  w = slice_index words (118 + 16 * b + s)
+  w = slice_index words (134 + 16 * (b - 1) + s)
 
   abbrev xs : List Span
   xs = spans_for t b s
@@ -62,21 +64,21 @@ module _ (l : Limits) (words : List ℕ) (t : LfhPart) (h : StandsFor (record { 
     | inr n ↦ let r = hinted_there n in let u = (usable r.0 r.1).1 in omega (arith, u, r.2)
   ]
 
-  pub no_hint : (d : ℕ) → w ≡ 0 → None ≡ option_map seat_of (at_hint t (key_of b s d))
+  pub no_hint : (d : ℕ) → w ≡ 0 → None ≡ option_map id_of (at_hint t (search_key b s d))
   no_hint d e =
-      sym (ap (λ ys. option_map seat_of (pass_found t.places (key_of b s d) ys)) (span_is ∙ none_kept (begins_at w) xs (λ x i. let u = (usable x i).0 in ne_eqb x.first w (λ f. omega (arith, u, f, e)))))
+      sym (ap (λ ys. option_map id_of (pass_found t.places (search_key b s d) ys)) (span_is ∙ none_kept (begins_at w) xs (λ x i. let u = (usable x i).0 in ne_eqb x.first w (λ f. omega (arith, u, f, e)))))
 
-  at_span : (d : ℕ) → (r : (x : Span) × IsOneOf x xs × (x.first ≡ w)) → at_hint t (key_of b s d) ≡ option_or (option_map (found_of r.0) (scan (bits_in l words w) (key_of b 0 d) (words_in_use b) 0)) None
+  at_span : (d : ℕ) → (r : (x : Span) × IsOneOf x xs × (x.first ≡ w)) → at_hint t (search_key b s d) ≡ option_or (option_map (found_of r.0) (scan (bits_in l words w) (search_key b 0 d) (words_in_use b) 0)) None
   at_span d r =
-      ap (pass_found t.places (key_of b s d)) (span_is ∙ ap (λ (n : ℕ). filter (begins_at n) xs) (sym r.2) ∙ alone_there 0 xs r.0 (xs_in_order l words t h b s bucket slot) r.1)
+      ap (pass_found t.places (search_key b s d)) (span_is ∙ ap (λ (n : ℕ). filter (begins_at n) xs) (sym r.2) ∙ alone_there 0 xs r.0 (xs_in_order l words t h b s bucket slot) r.1)
       ∙ ap (λ o. option_or (option_map (found_of r.0) o) None)
-      (sym (scan_is l words t h r.0 (key_of b s d) (words_in_use b) 0 (in_all l words t h b s bucket slot r.0 r.1) bucket)
-      ∙ ap (λ (n : ℕ). scan (bits_in l words n) (key_of b 0 d) (words_in_use b) 0) r.2)
+      (sym (scan_is l words t h r.0 (search_key b s d) (words_in_use b) 0 (in_all l words t h b s bucket slot r.0 r.1) bucket)
+      ∙ ap (λ (n : ℕ). scan (bits_in l words n) (search_key b 0 d) (words_in_use b) 0) r.2)
 
-  pub hint_none : (d : ℕ) → (w ≡ 0 → ⊥) → scan (bits_in l words w) (key_of b 0 d) (words_in_use b) 0 ≡ None → None ≡ option_map seat_of (at_hint t (key_of b s d))
-  hint_none d n e = let r = hinted_there n in sym (ap (option_map seat_of) (at_span d r ∙ ap (λ o. option_or (option_map (found_of r.0) o) None) e))
+  pub hint_none : (d : ℕ) → (w ≡ 0 → ⊥) → scan (bits_in l words w) (search_key b 0 d) (words_in_use b) 0 ≡ None → None ≡ option_map id_of (at_hint t (search_key b s d))
+  hint_none d n e = let r = hinted_there n in sym (ap (option_map id_of) (at_span d r ∙ ap (λ o. option_or (option_map (found_of r.0) o) None) e))
 
-  pub hint_found : (d i : ℕ) → (w ≡ 0 → ⊥) → scan (bits_in l words w) (key_of b 0 d) (words_in_use b) 0 ≡ Some i → Some (record { head = w; index = i }) ≡ option_map seat_of (at_hint t (key_of b s d))
+  pub hint_found : (d i : ℕ) → (w ≡ 0 → ⊥) → scan (bits_in l words w) (search_key b 0 d) (words_in_use b) 0 ≡ Some i → Some (record { head = w; index = i }) ≡ option_map id_of (at_hint t (search_key b s d))
   hint_found d i n e =
       let r = hinted_there n in
-      sym (ap (option_map seat_of) (at_span d r ∙ ap (λ o. option_or (option_map (found_of r.0) o) None) e) ∙ ap (λ (p : ℕ). Some (record { head = p; index = i })) r.2)
+      sym (ap (option_map id_of) (at_span d r ∙ ap (λ o. option_or (option_map (found_of r.0) o) None) e) ∙ ap (λ (p : ℕ). Some (record { head = p; index = i })) r.2)

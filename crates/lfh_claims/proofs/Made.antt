@@ -7,7 +7,7 @@ use Rattle.heap_model.specs.declared.Run.{Run}
 use Rattle.heap_model.specs.declared.Limits.{Limits}
 use Rattle.heap_model.specs.declared.Kind.TheVariants as kinds
 use Rattle.heap_model.specs.Buckets.{bucket_pages, block_size}
-use Rattle.heap_model.specs.State.{insert_span}
+use Rattle.heap_model.specs.State.{insert_span, Span}
 use Rattle.heap_model.specs.Legal.{with_span}
 use Rattle.heap_soundness.specs.Sound.{IsOneOf, AreInOrder}
 use Rattle.heap_soundness.proofs.Lists.{all_at}
@@ -18,20 +18,35 @@ use Rattle.page_ranges.proofs.Blocks.{taken_rise}
 use Rattle.backend_fit.specs.Kept.{Kept, area_of, taken_in, insert_run, marked_run, marked_span, with_segment}
 use Rattle.backend_fit.specs.Sound.{IsSound}
 use Rattle.heap_model.specs.Ranges.{is_of_kind}
-use Rattle.search_laws.proofs.Passes.{filtered_in_order}
 use Rattle.claim_rule.specs.Shown.{lfh_spans}
 use Rattle.search_laws.specs.Calls.{lfh_span}
+use Rattle.search_laws.proofs.Filtered.{filtered_in_order}
 use Rattle.lfh_claims.specs.Kept.{IsSubsegment}
-use Rattle.lfh_claims.specs.Scan.{lfh_mark}
+use Rattle.lfh_claims.specs.Takes.{lfh_mark, lfh_run}
 use Rattle.lfh_claims.proofs.Subsegments.{filter_keeps}
 
 order_of : (low : ℕ) (rs : List Run) → AreRising low rs → AreInOrder low (map span_of rs)
 order_of low [] a = tt
 order_of low (r ∷ rs) a = (a.0, a.1, order_of (r.first + r.pages) rs a.2)
 
-made_run : (x : Run) (ys : List Run) → IsOneOf x (insert_run x ys)
+-- a run that was put among others is one of them
+pub made_run : (x : Run) (ys : List Run) → IsOneOf x (insert_run x ys)
 made_run x [] = inl refl
 made_run x (y ∷ ys) = elim (cases_Bool (ltb x.first y.first)) [ inl e ↦ rw e (inl refl) | inr e ↦ rw e (inr (made_run x ys)) ]
+
+-- the others were in order too
+others_in_order : (low : ℕ) (x : Span) (ys : List Span) → AreInOrder low (insert_span x ys) → AreInOrder low ys
+others_in_order low x [] a = tt
+others_in_order low x (y ∷ ys) a = elim (cases_Bool (ltb x.first y.first)) [
+  | inl e ↦ front (rw e at a)
+  | inr e ↦ behind (rw e at a) (others_in_order (y.first + y.pages) x ys)
+]
+  where
+    front : AreInOrder low (x ∷ y ∷ ys) → AreInOrder low (y ∷ ys)
+    front a = (omega (arith, a.0, a.1, a.2.0), a.2.1, a.2.2)
+
+    behind : AreInOrder low (y ∷ insert_span x ys) → (AreInOrder (y.first + y.pages) (insert_span x ys) → AreInOrder (y.first + y.pages) ys) → AreInOrder low (y ∷ ys)
+    behind a again = (a.0, a.1, again a.2)
 
 module _ (l : Limits) (old new : Kept) (first b s : ℕ) (sound : IsSound new) (segments : new.region.segments ≡ l.segments)
     (area : area_of new ≡ with_span (with_segment (area_of old) first) (marked_span first (bucket_pages b) (lfh_mark b s)))
@@ -80,7 +95,7 @@ module _ (l : Limits) (old new : Kept) (first b s : ℕ) (sound : IsSound new) (
   pub made_spans : lfh_spans (area_of new) ≡ insert_span (lfh_span first b s) (lfh_spans (area_of old))
   made_spans =
       ap (filter (is_of_kind kinds.Lfh)) all_spans
-      ∙ filter_keeps 0 (is_of_kind kinds.Lfh) (lfh_span first b s) (area_of old).spans refl (subst (AreInOrder 0) all_spans area_order)
+      ∙ filter_keeps (is_of_kind kinds.Lfh) (lfh_span first b s) 0 (area_of old).spans (others_in_order 0 (lfh_span first b s) (area_of old).spans (subst (AreInOrder 0) all_spans area_order)) refl
 
   pub made_order : AreInOrder 0 (insert_span (lfh_span first b s) (lfh_spans (area_of old)))
   made_order = subst (AreInOrder 0) made_spans (filtered_in_order (is_of_kind kinds.Lfh) 0 (area_of new).spans area_order)
@@ -88,6 +103,7 @@ module _ (l : Limits) (old new : Kept) (first b s : ℕ) (sound : IsSound new) (
 -- what a range that was taken for a subsegment is
 pub record IsMade (l : Limits) (old new : Kept) (first b s : ℕ) : Type 0 where
   pub area : area_of new ≡ with_span (with_segment (area_of old) first) (lfh_span first b s)
+  pub runs : taken_in new.words ≡ insert_run (lfh_run first b s) (taken_in old.words)
   pub sub : IsSubsegment l (lfh_span first b s)
   pub spans : lfh_spans (area_of new) ≡ insert_span (lfh_span first b s) (lfh_spans (area_of old))
   pub order : AreInOrder 0 (insert_span (lfh_span first b s) (lfh_spans (area_of old)))
@@ -109,6 +125,7 @@ made l old new first b s n m e f sound segments area marks bucket slot =
     let r = marks ∙ ap (λ (k : ℕ). insert_run (marked_run first k m) (taken_in old.words)) e ∙ ap (λ (k : Mark). insert_run (marked_run first (bucket_pages b) k) (taken_in old.words)) f in
     record {
       area = a;
+      runs = r;
       sub = is_subsegment l old new first b s sound segments a r (pages_some b) bucket slot;
       spans = made_spans l old new first b s sound segments a r (pages_some b);
       order = made_order l old new first b s sound segments a r (pages_some b);

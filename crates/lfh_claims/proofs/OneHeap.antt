@@ -1,12 +1,9 @@
 -- A front end and a back end of one heap stay so.
-use Rattle.std.proofs.Common.{◌≡◌, ℕ, false, [], Option, Some, None, refl, sym, ap, subst, ◌∙◌}
-use Rattle.std.specs.Prelude.{option_and_then}
-use Rattle.std.specs.List.{find}
+use Rattle.std.proofs.Common.{◌≡◌, ℕ, false, [], Option, Some, None, sym, ap, subst, ◌∙◌}
 use Rattle.heap_model.specs.Search.{SearchKey}
-use Rattle.heap_model.specs.State.{Place, has_address, live_size}
 use Rattle.backend_fit.specs.Kept.{Kept, area_of}
 use Rattle.claim_rule.specs.Shown.{lfh_spans}
-use Rattle.lfh_claims.specs.Kept.{LfhKept, LfhPart, StandsFor, HasBlock, no_part, size_at, without_block}
+use Rattle.lfh_claims.specs.Kept.{LfhKept, LfhPart, StandsFor, no_part}
 use Rattle.lfh_claims.specs.Takes.{StandsIn, AreOfOneHeap, TakesOrNot, Takes, AtHint, InPass, NewSpan}
 
 pub opened_together : (k : LfhKept) (b : Kept) → StandsFor k no_part → area_of b ≡ record { reserved = 0; committed = λ _. false; spans = [] } → b.region.segments ≡ k.limits.segments → AreOfOneHeap k b
@@ -27,17 +24,3 @@ module _ (old new : LfhKept) (before after : Kept) (g : SearchKey) (size : ℕ) 
   pub after_place : (o : Option ℕ) → TakesOrNot old new before after h.part g size o → AreOfOneHeap new after
   after_place (Some addr) r = taken addr r
   after_place None r = still h.part (subst (λ k. StandsIn k (area_of after) h.part) (sym r.same) (subst (λ b. StandsIn old (area_of b) h.part) (sym r.back) h.stands)) (ap (λ k. k.region.segments) r.back)
-
-pub block_there : (k : LfhKept) (b : Kept) (addr : ℕ) (o : Option ℕ) → AreOfOneHeap k b → ((t : LfhPart) → StandsFor k t → o ≡ size_at t.places addr) → (o ≡ None → ⊥) → HasBlock k addr
-block_there k b addr o h found some = by_place (find (has_address addr) h.part.places) refl
-  where
-    by_place : (p : Option Place) → find (has_address addr) h.part.places ≡ p → HasBlock k addr
-    by_place None e = absurd (some (found h.part h.stands.stands ∙ ap (option_and_then (λ p. live_size p.status)) e))
-    by_place (Some p) e = record { part = h.part; stands = h.stands.stands; place = p; there = e }
-
-pub after_drop : (old new : LfhKept) (b : Kept) (addr : ℕ) → AreOfOneHeap old b → ((t : LfhPart) → StandsFor old t → StandsFor new (without_block t addr)) → new.limits ≡ old.limits → AreOfOneHeap new b
-after_drop old new b addr h drops limits = record {
-  part = without_block h.part addr;
-  stands = record { stands = drops h.part h.stands.stands; spans = h.stands.spans };
-  segments = h.segments ∙ sym (ap (λ l. l.segments) limits);
-}

@@ -1,5 +1,5 @@
 -- A pass over the subsegments of a bucket and a slot, by their tags.
-use Rattle.std.proofs.Common.{◌≡◌, ℕ, zero, suc, ◌+◌, ◌-◌, ◌*◌, ◌/◌, ◌%◌, ◌<◌, ◌≤◌, ◌⊎◌, Bool, true, false, ◌&&◌, List, [], ◌∷◌, Option, Some, None, inl, inr, refl, sym, ap, ◌∙◌, subst, arith, length, leb, ltb, eqb, min, bit_and, drop}
+use Rattle.std.proofs.Common.{◌≡◌, ℕ, zero, suc, ◌+◌, ◌-◌, ◌*◌, ◌/◌, ◌%◌, ◌<◌, ◌≤◌, ◌⊎◌, Bool, true, ◌&&◌, List, [], ◌∷◌, Option, Some, None, inl, inr, refl, sym, ap, ◌∙◌, subst, arith, length, leb, ltb, eqb, min, bit_and, drop}
 use Rattle.std.specs.Prelude.{slice_index, slice_range, option_map, unwrap_or, filter}
 use Rattle.std.specs.Option.{option_or}
 use Rattle.std.specs.List.{find}
@@ -16,17 +16,19 @@ use Rattle.heap_model.specs.State.{Span, is_kind}
 use Rattle.heap_model.specs.Search.{SearchKey, is_span_of, first_word}
 use Rattle.heap_soundness.specs.Sound.{IsOneOf, AreInOrder}
 use Rattle.heap_soundness.proofs.Lists.{all_at, found_in, found_passes}
-use Rattle.heap_soundness.proofs.GapRuns.{in_filtered as into_filtered}
+use Rattle.heap_soundness.proofs.GapRuns.{in_filtered, filtered_cases}
 use Rattle.heap_soundness.proofs.Spans.{above, apart_spans}
 use Rattle.search_laws.specs.Reading.{found_of, word_behind, picked_at, block_from, block_found, pass_found}
-use Rattle.search_laws.proofs.Passes.{filtered_in_order, in_filtered}
+use Rattle.search_laws.proofs.Filtered.{filtered_in_order, all_kept, none_kept}
+use Rattle.search_laws.proofs.Passes.{found_there}
 use Rattle.claim_rule.specs.Shown.{tag_of, bitmap_word}
 use Rattle.lane_scan.specs.Matches.{IsFirstMatch, NoneMatches}
 use Rattle.lfh_buckets.specs.Blocks.{IsBucket}
 use Rattle.lfh_buckets.proofs.BlockLemmas.{few_blocks}
 use Rattle.lfh_claims.specs.Kept.{LfhPart, StandsFor, IsSubsegment, spans_for}
-use Rattle.lfh_claims.specs.Scan.{bits_in, key_of, scan, seat_of, from_on, HasCome}
-use Rattle.lfh_claims.proofs.Seats.{span_of_page, begins_there}
+use Rattle.lfh_claims.specs.Scan.{search_key, scan, id_of, from_on, HasCome}
+use Rattle.table_words.specs.Told.{bits_in}
+use Rattle.lfh_claims.proofs.Seats.{span_of_page}
 
 ---- Lists of spans
 
@@ -36,14 +38,6 @@ same_filter t u (x ∷ xs) h = elim (cases_Bool (u x)) [
   | inl e ↦ rw (h x (inl refl), e) (ap (λ ys. x ∷ ys) (same_filter t u xs (λ y i. h y (inr i))))
   | inr e ↦ rw (h x (inl refl), e) (same_filter t u xs (λ y i. h y (inr i)))
 ]
-
-pub none_kept : (t : Span → Bool) (xs : List Span) → ((x : Span) → IsOneOf x xs → t x ≡ false) → filter t xs ≡ []
-none_kept t [] h = refl
-none_kept t (x ∷ xs) h = rw (h x (inl refl)) (none_kept t xs (λ y i. h y (inr i)))
-
-pub all_kept : (t : Span → Bool) (xs : List Span) → ((x : Span) → IsOneOf x xs → t x ≡ true) → filter t xs ≡ xs
-all_kept t [] h = refl
-all_kept t (x ∷ xs) h = rw (h x (inl refl)) (ap (λ ys. x ∷ ys) (all_kept t xs (λ y i. h y (inr i))))
 
 -- from the first page of a span on
 split_at : (low : ℕ) (xs : List Span) (y : Span) → AreInOrder low xs → IsOneOf y xs → from_on y.first xs ≡ y ∷ from_on (y.first + y.pages) xs
@@ -80,7 +74,7 @@ module _ (l : Limits) (words : List ℕ) (t : LfhPart) (h : StandsFor (record { 
       let place : 2182 + 256 * l.segments + 4 * x.first + w ≡ 2182 + 256 * l.segments + (4 * x.first + w) = omega arith in
       ap (slice_index words) place ∙ h.bitmaps (4 * x.first + w) below
       ∙ ap (λ (n : ℕ). bitmap_word t.places t.spans n ((4 * x.first + w) % 4)) page ∙ ap (bitmap_word t.places t.spans x.first) word
-      ∙ ap (λ o. unwrap_or (option_map (λ y. bits_of t.places y w) o) 0) (begins_there t.spans x h.in_order i)
+      ∙ ap (λ o. unwrap_or (option_map (λ y. bits_of t.places y w) o) 0) (found_there 0 t.spans x h.in_order i)
 
   -- the reading of a span's words finds the block that a reading of the span finds
   pub scan_is : (x : Span) (g : SearchKey) (n k : ℕ) → IsOneOf x t.spans → IsBucket g.bucket → scan (bits_in l words x.first) (record { bucket = g.bucket; slot = 0; draw = g.draw }) n k ≡ block_from t.places g x n k
@@ -137,13 +131,13 @@ module _ (l : Limits) (words : List ℕ) (t : LfhPart) (h : StandsFor (record { 
 
     pub is_of : (x : Span) → IsOneOf x xs → (x.bucket ≡ b) × (x.slot ≡ s)
     is_of x i =
-        let r = in_filtered (is_span_of b s) x t.spans i in
+        let r = filtered_cases (is_span_of b s) x t.spans i in
         let p = and_parts (is_kind x.kind kinds.Lfh && eqb x.bucket b) (eqb x.slot s) r.1 in
         let q = and_parts (is_kind x.kind kinds.Lfh) (eqb x.bucket b) p.0 in
         (eqb-true x.bucket b q.1, eqb-true x.slot s p.1)
 
     pub in_all : (x : Span) → IsOneOf x xs → IsOneOf x t.spans
-    in_all x i = (in_filtered (is_span_of b s) x t.spans i).0
+    in_all x i = (filtered_cases (is_span_of b s) x t.spans i).0
 
     -- each page of a span of them matches
     match_of : (x : Span) (u : ℕ) → IsOneOf x xs → x.first ≤ u → u < x.first + x.pages → u < 256 * l.segments → bit_and (slice_index tags u) 4294967295 ≡ start
@@ -168,7 +162,7 @@ module _ (l : Limits) (words : List ℕ) (t : LfhPart) (h : StandsFor (record { 
             let is : is_span_of b s x ≡ true =
             and_from (is_kind x.kind kinds.Lfh && eqb x.bucket b) (eqb x.slot s)
             (and_from (is_kind x.kind kinds.Lfh) (eqb x.bucket b) (ap (λ (k : Kind). is_kind k kinds.Lfh) sub.kind) (eq-eqb x.bucket b parts.0)) (eq-eqb x.slot s parts.1) in
-            (x, into_filtered (is_span_of b s) x t.spans is i, leb-true x.first u over.0, ltb-true u (x.first + x.pages) over.1)
+            (x, in_filtered (is_span_of b s) x t.spans is i, leb-true x.first u over.0, ltb-true u (x.first + x.pages) over.1)
 
     first_inside : (x : Span) → IsOneOf x xs → (x.first < 256 * l.segments) × (0 < x.pages)
     first_inside x i =
@@ -255,37 +249,37 @@ module _ (l : Limits) (words : List ℕ) (t : LfhPart) (h : StandsFor (record { 
         next_is from page clear f r.0 r.1 r.2 r.3
 
     -- a pass that has come to a page goes on to the next that matches
-    pub come_on : (d from page : ℕ) → HasCome l words (key_of b s d) from t → (f : IsFirstMatch tags 4294967295 start from page)
-        → scan (bits_in l words page) (key_of b 0 d) (words_in_use b) 0 ≡ None → HasCome l words (key_of b s d) (page + bucket_pages b) t
+    pub come_on : (d from page : ℕ) → HasCome l words (search_key b s d) from t → (f : IsFirstMatch tags 4294967295 start from page)
+        → scan (bits_in l words page) (search_key b 0 d) (words_in_use b) 0 ≡ None → HasCome l words (search_key b s d) (page + bucket_pages b) t
     come_on d from page h2 f e = record {
       clear = n.clear;
-      finds = h2.finds ∙ ap (pass_found t.places (key_of b s d)) n.rest ∙ ap (λ o. option_or (option_map (found_of n.span) o) (pass_found t.places (key_of b s d) (from_on (page + bucket_pages b) xs))) none;
+      finds = h2.finds ∙ ap (pass_found t.places (search_key b s d)) n.rest ∙ ap (λ o. option_or (option_map (found_of n.span) o) (pass_found t.places (search_key b s d) (from_on (page + bucket_pages b) xs))) none;
     }
       where
         n : IsNext from page
         n = next_span from page h2.clear f
 
-        none : block_found t.places (key_of b s d) n.span ≡ None
-        none = sym (scan_is n.span (key_of b s d) (words_in_use b) 0 (in_all n.span n.there) bucket) ∙ ap (λ (p : ℕ). scan (bits_in l words p) (key_of b 0 d) (words_in_use b) 0) n.head ∙ e
+        none : block_found t.places (search_key b s d) n.span ≡ None
+        none = sym (scan_is n.span (search_key b s d) (words_in_use b) 0 (in_all n.span n.there) bucket) ∙ ap (λ (p : ℕ). scan (bits_in l words p) (search_key b 0 d) (words_in_use b) 0) n.head ∙ e
 
-    pub comes_to : (d from page i : ℕ) → HasCome l words (key_of b s d) from t → (f : IsFirstMatch tags 4294967295 start from page)
-        → scan (bits_in l words page) (key_of b 0 d) (words_in_use b) 0 ≡ Some i → Some (record { head = page; index = i }) ≡ option_map seat_of (pass_found t.places (key_of b s d) xs)
+    pub comes_to : (d from page i : ℕ) → HasCome l words (search_key b s d) from t → (f : IsFirstMatch tags 4294967295 start from page)
+        → scan (bits_in l words page) (search_key b 0 d) (words_in_use b) 0 ≡ Some i → Some (record { head = page; index = i }) ≡ option_map id_of (pass_found t.places (search_key b s d) xs)
     comes_to d from page i h2 f e =
-        sym (ap (option_map seat_of) (h2.finds ∙ ap (pass_found t.places (key_of b s d)) n.rest
-        ∙ ap (λ o. option_or (option_map (found_of n.span) o) (pass_found t.places (key_of b s d) (from_on (page + bucket_pages b) xs))) some)
+        sym (ap (option_map id_of) (h2.finds ∙ ap (pass_found t.places (search_key b s d)) n.rest
+        ∙ ap (λ o. option_or (option_map (found_of n.span) o) (pass_found t.places (search_key b s d) (from_on (page + bucket_pages b) xs))) some)
         ∙ ap (λ (p : ℕ). Some (record { head = p; index = i })) n.head)
       where
         n : IsNext from page
         n = next_span from page h2.clear f
 
-        some : block_found t.places (key_of b s d) n.span ≡ Some i
-        some = sym (scan_is n.span (key_of b s d) (words_in_use b) 0 (in_all n.span n.there) bucket) ∙ ap (λ (p : ℕ). scan (bits_in l words p) (key_of b 0 d) (words_in_use b) 0) n.head ∙ e
+        some : block_found t.places (search_key b s d) n.span ≡ Some i
+        some = sym (scan_is n.span (search_key b s d) (words_in_use b) 0 (in_all n.span n.there) bucket) ∙ ap (λ (p : ℕ). scan (bits_in l words p) (search_key b 0 d) (words_in_use b) 0) n.head ∙ e
 
-    pub comes_to_none : (d from : ℕ) → HasCome l words (key_of b s d) from t → NoneMatches tags 4294967295 start from (length tags) → None ≡ option_map seat_of (pass_found t.places (key_of b s d) xs)
-    comes_to_none d from h2 none = sym (ap (option_map seat_of) (h2.finds ∙ ap (pass_found t.places (key_of b s d)) (no_more d from none)))
+    pub comes_to_none : (d from : ℕ) → HasCome l words (search_key b s d) from t → NoneMatches tags 4294967295 start from (length tags) → None ≡ option_map id_of (pass_found t.places (search_key b s d) xs)
+    comes_to_none d from h2 none = sym (ap (option_map id_of) (h2.finds ∙ ap (pass_found t.places (search_key b s d)) (no_more d from none)))
 
-    pub begins_pass : (d : ℕ) → HasCome l words (key_of b s d) 0 t
+    pub begins_pass : (d : ℕ) → HasCome l words (search_key b s d) 0 t
     begins_pass d = record {
       clear = λ x i. inr (omega arith);
-      finds = sym (ap (pass_found t.places (key_of b s d)) (all_kept (λ x. leb 0 x.first) xs (λ x i. le-leb 0 x.first (omega arith))));
+      finds = sym (ap (pass_found t.places (search_key b s d)) (all_kept (λ x. leb 0 x.first) xs (λ x i. le-leb 0 x.first (omega arith))));
     }

@@ -1,5 +1,5 @@
 -- A block more, where none was.
-use Rattle.std.proofs.Common.{◌≡◌, ℕ, ◌+◌, ◌*◌, ◌/◌, ◌%◌, ◌<◌, ◌≤◌, Bool, true, false, ◌&&◌, ◌||◌, List, ◌∷◌, length, Option, Some, None, inl, inr, refl, sym, ap, subst, ◌∙◌, arith, eqb, ltb}
+use Rattle.std.proofs.Common.{◌≡◌, ℕ, ◌+◌, ◌-◌, ◌*◌, ◌/◌, ◌%◌, ◌<◌, ◌≤◌, Bool, true, false, ◌&&◌, ◌||◌, List, ◌∷◌, length, Option, Some, None, inl, inr, refl, sym, ap, subst, ◌∙◌, arith, eqb, ltb}
 use Rattle.std.specs.Prelude.{slice_index, slice_set, option_map, unwrap_or}
 use Rattle.std.specs.List.{find, AllByRecursion}
 use Rattle.std.proofs.lemmas.Bool.{cases_lt, eq-eqb, ne_eqb, eqb-true, eqb-false, le-ltb, lt-ltb}
@@ -9,16 +9,24 @@ use Rattle.heap_model.specs.Bits.{starts_at, is_taken, bits_of}
 use Rattle.heap_model.specs.Search.{begins_at}
 use Rattle.heap_model.specs.State.{Span, Place}
 use Rattle.heap_soundness.specs.Sound.{IsOneOf}
+use Rattle.search_laws.specs.Reading.{found_of, lfh_block}
+use Rattle.search_laws.specs.Calls.{lfh_span}
 use Rattle.heap_soundness.proofs.Lists.{all_at, all_from, none_at, found_in, found_passes}
 use Rattle.claim_rule.specs.Places.{active_region, bitmaps_region, sizes_region}
 use Rattle.claim_rule.specs.Shown.{flag, bitmap_word, size_word}
 use Rattle.lfh_buckets.specs.Blocks.{IsBucket}
 use Rattle.lfh_buckets.proofs.BlockLemmas.{few_blocks, size_in_granules}
-use Rattle.lfh_claims.specs.Kept.{LfhKept, LfhPart, StandsFor, IsSubsegment, IsBlockOf, HaveOwnStarts, IsFree, live_block, with_block}
+use Rattle.lfh_claims.specs.Kept.{LfhKept, LfhPart, StandsFor, IsSubsegment, IsBlockOf, HaveOwnStarts, IsFree, with_block}
 use Rattle.lfh_claims.proofs.Regions.{other_word, outside, inside}
 use Rattle.lfh_claims.proofs.Starts.{begins}
 use Rattle.lfh_claims.proofs.Bits.{with_bit, same_word_of, word_with}
-use Rattle.lfh_claims.proofs.Seats.{IsSeat, seat_of, one_block, begins_there, bucket_is}
+use Rattle.lfh_buckets.proofs.Seats.{IsSeat}
+use Rattle.lfh_claims.proofs.Seats.{seat_of, one_block, bucket_is}
+use Rattle.search_laws.proofs.Passes.{found_there}
+
+-- block i of the subsegment of bucket b at page first, whose slot does not matter, of so many bytes
+abbrev pub block_of : ℕ → ℕ → ℕ → ℕ → Place
+block_of b first i size = lfh_block b size (found_of (lfh_span first b 0) i)
 
 module _ (k : LfhKept) (t : LfhPart) (b first i size : ℕ) (h : StandsFor k t) (f : IsFree t b first i) (fits : size ≤ block_size b) (most : size ≤ 16368) where
   abbrev x : Span
@@ -28,7 +36,7 @@ module _ (k : LfhKept) (t : LfhPart) (b first i size : ℕ) (h : StandsFor k t) 
   addr = block_address b first i
 
   abbrev p : Place
-  p = live_block b first i size
+  p = block_of b first i size
 
   pub sub : IsSubsegment k.limits x
   sub = all_at (IsSubsegment k.limits) x t.spans h.subsegments f.there
@@ -42,8 +50,8 @@ module _ (k : LfhKept) (t : LfhPart) (b first i size : ℕ) (h : StandsFor k t) 
   below : i < block_count x.bucket
   below = subst (λ (b : ℕ). i < block_count b) (sym f.bucket) f.below
 
-  pub home : IsSeat k.limits x addr
-  home = subst (IsSeat k.limits x) start (seat_of k.limits x i sub below)
+  pub home : IsSeat k.limits x.first x.pages (block_size x.bucket) addr
+  home = subst (IsSeat k.limits x.first x.pages (block_size x.bucket)) start (seat_of k.limits x i sub below)
 
   pub few : i / 64 < 4
   few = let n = (few_blocks x.bucket is_bucket).1 in omega (arith, below, n)
@@ -85,7 +93,7 @@ module _ (k : LfhKept) (t : LfhPart) (b first i size : ℕ) (h : StandsFor k t) 
           other (omega (arith, number, at, j)))))
 
   begins_here : find (begins_at first) t.spans ≡ Some x
-  begins_here = ap (λ (n : ℕ). find (begins_at n) t.spans) (sym f.head) ∙ begins_there t.spans x h.in_order f.there
+  begins_here = ap (λ (n : ℕ). find (begins_at n) t.spans) (sym f.head) ∙ found_there 0 t.spans x h.in_order f.there
 
   word_here : (ps : List Place) → bitmap_word ps t.spans first (i / 64) ≡ bits_of ps x (i / 64)
   word_here ps = ap (λ o. unwrap_or (option_map (λ y. bits_of ps y (i / 64)) o) 0) begins_here
@@ -151,9 +159,6 @@ module _ (k : LfhKept) (t : LfhPart) (b first i size : ℕ) (h : StandsFor k t) 
         let g = home.granule in
         subst (λ (n : ℕ). size_at < n) (sym (length-set k.words at v ∙ h.as_long)) (omega (arith, size_is, g))
 
-    some : 1 ≤ k.limits.segments
-    some = h.limits.some_segments
-
     in_bitmaps : at < 2182 + 1280 * k.limits.segments
     in_bitmaps = omega (arith, at_is, head_below, few)
 
@@ -169,7 +174,7 @@ module _ (k : LfhKept) (t : LfhPart) (b first i size : ℕ) (h : StandsFor k t) 
     elsewhere : (j : ℕ) → (j ≡ addr / 16 → ⊥) → size_word t.places j ≡ size_word (p ∷ t.places) j
     elsewhere j n = rw (ne_eqb addr (16 * j) (λ e. n (omega (arith, granule, e)))) refl
 
-    pub put_stands : StandsFor (record { limits = k.limits; words = slice_set (slice_set k.words at (with_bit word (i % 64))) size_at (size + 1) }) (with_block t (live_block b first i size))
+    pub put_stands : StandsFor (record { limits = k.limits; words = slice_set (slice_set k.words at (with_bit word (i % 64))) size_at (size + 1) }) (with_block t (block_of b first i size))
     put_stands = record {
       limits = h.limits;
       in_order = h.in_order;
@@ -192,6 +197,6 @@ module _ (k : LfhKept) (t : LfhPart) (b first i size : ℕ) (h : StandsFor k t) 
           other_word words size_at (size + 1) (2182 + page) (λ f. omega (arith, l, f, behind))
           ∙ other_word k.words at v (2182 + page) (λ f. omega (arith, l, f, behind_tags)) ∙ h.tags page l;
       shown = λ c slot l m n.
-          other_word words size_at (size + 1) (118 + 16 * c + slot) (λ f. omega (arith, l, m, n, f, behind))
-          ∙ other_word k.words at v (118 + 16 * c + slot) (λ f. omega (arith, l, m, n, f, behind_tags)) ∙ h.shown c slot l m n;
+          other_word words size_at (size + 1) (134 + 16 * (c - 1) + slot) (λ f. omega (arith, l, m, n, f, behind))
+          ∙ other_word k.words at v (134 + 16 * (c - 1) + slot) (λ f. omega (arith, l, m, n, f, behind_tags)) ∙ h.shown c slot l m n;
     }

@@ -2,6 +2,7 @@
 use Rattle.std.proofs.Common.{◌≡◌, ℕ, zero, suc, ◌+◌, ◌-◌, ◌*◌, ◌/◌, ◌%◌, ◌<◌, ◌≤◌, List, Option, Some, None, sym, ap, ◌∙◌, arith, length, inl, inr, add-zero, mod-eq_of_lt}
 use Rattle.std.specs.Prelude.{slice_index, slice_set, option_map, unwrap_or}
 use Rattle.std.specs.Option.{option_or}
+use Rattle.heap_model.specs.declared.Limits.{Limits}
 use Rattle.heap_model.specs.Buckets.{words_in_use, valid_bits, block_count}
 use Rattle.std.specs.Int.{div_ceil}
 use Rattle.heap_model.specs.Geometry.{ceil_div}
@@ -35,9 +36,6 @@ scan_found bits g n k i l e h = sym (h ∙ first (n - k) (omega arith))
     first : (m : ℕ) → 0 < m → scan bits g m k ≡ Some i
     first zero p = absurd (omega arith)
     first (suc m) p = ap (λ o. option_or o (scan bits g m (suc k))) e
-
-pub scan_none : (bits : ℕ → ℕ) (g : SearchKey) (n k : ℕ) → n ≤ k → scan bits g n 0 ≡ scan bits g (n - k) k → None ≡ scan bits g n 0
-scan_none bits g n k l h = let none : n - k ≡ 0 = omega arith in sym (h ∙ ap (λ (m : ℕ). scan bits g m k) none)
 
 ---- The word that is read
 
@@ -86,8 +84,8 @@ own_fits b s d h =
 
 ---- Tags
 
-pub tagged_more : (old words new : List ℕ) (head k tag at : ℕ) → at ≡ 2182 + (head + k) → at < length words → new ≡ slice_set words at tag → AreTagged old words head k tag → AreTagged old new head (k + 1) tag
-tagged_more old words new head k tag at e l put h = record {
+pub tagged_more : (limits : Limits) (old words new : List ℕ) (head k tag at : ℕ) → at ≡ 2182 + (head + k) → at < length words → new ≡ slice_set words at tag → AreTagged limits old words head k tag → AreTagged limits old new head (k + 1) tag
+tagged_more limits old words new head k tag at e l put h = record {
   as_long = ap length put ∙ length-set words at tag ∙ h.as_long;
   tagged = λ j m. elim (cases_eq j k) [
     | inl same ↦

@@ -1,56 +1,26 @@
 -- Where a block of the front end is: its span, its number, and what the words show of it.
-use Rattle.std.proofs.Common.{◌≡◌, ℕ, ◌+◌, ◌*◌, ◌/◌, ◌%◌, ◌<◌, ◌≤◌, List, Some, refl, sym, ap, subst, ◌∙◌, arith, leb, ltb}
+use Rattle.std.proofs.Common.{◌≡◌, ℕ, ◌+◌, ◌/◌, ◌<◌, ◌≤◌, List, Some, sym, ap, subst, ◌∙◌, leb, ltb}
 use Rattle.std.specs.Prelude.{slice_index, option_map, unwrap_or}
 use Rattle.std.specs.List.{find, AllByRecursion}
-use Rattle.std.proofs.Math.Nat.{mul-div_cancel}
-use Rattle.std.proofs.lemmas.Bool.{and_from, and_parts, le-leb, lt-ltb, leb-true, ltb-true, eqb-true, eq-eqb}
+use Rattle.std.proofs.lemmas.Bool.{and_from, and_parts, le-leb, lt-ltb, leb-true, ltb-true, eqb-true}
 use Rattle.heap_model.specs.declared.Limits.{Limits}
-use Rattle.heap_model.specs.Buckets.{block_size, block_address, block_count, bucket_pages}
+use Rattle.heap_model.specs.Buckets.{block_size, block_address, block_count}
 use Rattle.heap_model.specs.Backend.{in_span}
-use Rattle.heap_model.specs.Search.{begins_at}
 use Rattle.heap_model.specs.State.{Span, Place, has_address}
 use Rattle.heap_soundness.specs.Sound.{IsOneOf, AreInOrder}
 use Rattle.heap_soundness.proofs.Lists.{all_at, all_weaker, found_in, found_passes, find_some}
-use Rattle.heap_soundness.proofs.Layers.{block_end}
-use Rattle.heap_soundness.proofs.Spans.{same_span, same_first}
+use Rattle.heap_soundness.proofs.Spans.{same_span}
 use Rattle.claim_rule.specs.Shown.{tag_of}
 use Rattle.lfh_buckets.specs.Blocks.{IsBucket}
-use Rattle.lfh_buckets.proofs.BlockLemmas.{size_in_granules}
+use Rattle.lfh_buckets.proofs.Seats.{IsSeat, block_seat, same_number}
 use Rattle.lfh_claims.specs.Kept.{LfhKept, LfhPart, StandsFor, IsSubsegment, IsBlockOf}
 use Rattle.lfh_claims.proofs.Starts.{OfLfh, begins, found_by_start}
 
 pub bucket_is : (l : Limits) (x : Span) → IsSubsegment l x → IsBucket x.bucket
 bucket_is l x h = record { first = h.bucket.0; last = h.bucket.1 }
 
--- what follows of where block i of a subsegment begins
-pub record IsSeat (l : Limits) (x : Span) (start : ℕ) : Type 0 where
-  pub aligned : start % 16 ≡ 0
-  pub granule : start / 16 < 65536 * l.segments
-  pub page : start / 4096 < 256 * l.segments
-  pub from : x.first ≤ start / 4096
-  pub before : start / 4096 < x.first + x.pages
-
-seat_by : (l : Limits) (x : Span) (i s pages start : ℕ) → x.pages ≡ pages → x.first + x.pages ≤ 256 * l.segments → s % 16 ≡ 0 → 16 ≤ s
-    → start ≡ 4096 * x.first + 64 + i * s → start + s ≤ 4096 * (x.first + pages) → IsSeat l x start
-seat_by l x i s pages start e t g some a b =
-    let q : s ≡ 16 * (s / 16) = omega (arith, g) in
-    let m : i * s ≡ i * (16 * (s / 16)) = ap (λ x. i * x) q in
-    record { aligned = omega arith; granule = omega arith; page = omega arith; from = omega arith; before = omega arith }
-
-pub seat_of : (l : Limits) (x : Span) (i : ℕ) → IsSubsegment l x → i < block_count x.bucket → IsSeat l x (block_address x.bucket x.first i)
-seat_of l x i h b =
-    let g = size_in_granules x.bucket (bucket_is l x h) in
-    seat_by l x i (block_size x.bucket) (bucket_pages x.bucket) (block_address x.bucket x.first i) h.pages h.there g.0 g.1 refl (block_end x.bucket x.first i b)
-
--- the number of a block, by its place
-pub same_number : (b first i j : ℕ) → IsBucket b → block_address b first i ≡ block_address b first j → i ≡ j
-same_number b first i j h e = by_size (block_size b) (size_in_granules b h).1 e
-  where
-    by_size : (s : ℕ) → 16 ≤ s → 4096 * first + 64 + i * s ≡ 4096 * first + 64 + j * s → i ≡ j
-    by_size s some e =
-        let p : 0 < s = omega (arith, some) in
-        let m : i * s ≡ j * s = omega arith in
-        sym (mul-div_cancel i p) ∙ ap (λ (n : ℕ). n / s) m ∙ mul-div_cancel j p
+pub seat_of : (l : Limits) (x : Span) (i : ℕ) → IsSubsegment l x → i < block_count x.bucket → IsSeat l x.first x.pages (block_size x.bucket) (block_address x.bucket x.first i)
+seat_of l x i h below = block_seat l x.bucket x.first x.pages i (bucket_is l x h) h.pages h.there below
 
 -- two blocks that begin at one address are one
 pub record IsOneBlock (x y : Span) (i j : ℕ) : Type 0 where
@@ -81,7 +51,7 @@ pub record Seat (k : LfhKept) (t : LfhPart) (addr : ℕ) (p : Place) : Type 0 wh
   pub found : find (begins addr) t.places ≡ Some p
   pub block : IsBlockOf t.spans p
   pub sub : IsSubsegment k.limits block.span
-  pub at : IsSeat k.limits block.span addr
+  pub at : IsSeat k.limits block.span.first block.span.pages (block_size block.span.bucket) addr
   pub tag : slice_index k.words (2182 + addr / 4096) ≡ tag_of block.span
 
 pub span_of_page : (xs : List Span) (x : Span) (u : ℕ) → AreInOrder 0 xs → IsOneOf x xs → x.first ≤ u → u < x.first + x.pages → find (in_span u) xs ≡ Some x
@@ -95,12 +65,6 @@ span_of_page xs x u a i l h = r.1 ∙ ap Some (sym same)
         let w = and_parts (leb r.0.first u) (ltb u (r.0.first + r.0.pages)) (found_passes (in_span u) xs r.0 r.1) in
         same_span 0 xs x r.0 u a i (found_in (in_span u) xs r.0 r.1) l h (leb-true r.0.first u w.0) (ltb-true u (r.0.first + r.0.pages) w.1)
 
-pub begins_there : (xs : List Span) (x : Span) → AreInOrder 0 xs → IsOneOf x xs → find (begins_at x.first) xs ≡ Some x
-begins_there xs x a i = r.1 ∙ ap Some (same_first 0 xs r.0 x a (found_in (begins_at x.first) xs r.0 r.1) i (eqb-true r.0.first x.first (found_passes (begins_at x.first) xs r.0 r.1)))
-  where
-    r : (y : Span) × (find (begins_at x.first) xs ≡ Some y)
-    r = find_some (begins_at x.first) xs x i (eq-eqb x.first x.first refl)
-
 pub seat : (k : LfhKept) (t : LfhPart) (addr : ℕ) (p : Place) → StandsFor k t → find (has_address addr) t.places ≡ Some p → Seat k t addr p
 seat k t addr p h found =
     let by_start : find (begins addr) t.places ≡ Some p = sym (found_by_start addr t.places (all_of_lfh t.spans t.places h.blocks)) ∙ found in
@@ -108,7 +72,7 @@ seat k t addr p h found =
     let b = all_at (IsBlockOf t.spans) p t.places h.blocks i in
     let s = all_at (IsSubsegment k.limits) b.span t.spans h.subsegments b.there in
     let start : p.start ≡ addr = eqb-true p.start addr (found_passes (begins addr) t.places p by_start) in
-    let home : IsSeat k.limits b.span addr = subst (IsSeat k.limits b.span) (sym b.start ∙ start) (seat_of k.limits b.span b.index s b.below) in
+    let home : IsSeat k.limits b.span.first b.span.pages (block_size b.span.bucket) addr = subst (IsSeat k.limits b.span.first b.span.pages (block_size b.span.bucket)) (sym b.start ∙ start) (seat_of k.limits b.span b.index s b.below) in
     record {
       starts = start;
       there = i;

@@ -1,5 +1,5 @@
 -- Places by where they begin, one taken away or changed.
-use Rattle.std.proofs.Common.{◌≡◌, ℕ, Bool, true, false, ◌||◌, List, [], ◌∷◌, Some, None, inl, inr, refl, sym, ap, subst, ◌∙◌, eqb}
+use Rattle.std.proofs.Common.{◌≡◌, ℕ, Bool, true, false, ◌||◌, List, [], ◌∷◌, Some, inl, inr, refl, sym, ap, subst, ◌∙◌, eqb}
 use Rattle.std.specs.List.{find, list_any, AllByRecursion}
 use Rattle.std.proofs.lemmas.Bool.{cases_Bool, eqb-true, ne_eqb}
 use Rattle.heap_model.specs.declared.Layer.TheVariants as layers
@@ -73,13 +73,6 @@ any_removed_same b [] h = refl
 any_removed_same b (p ∷ ps) h = elim (cases_Bool (begins b p)) [
   | inl e ↦ rw e (none_behind b p ps (eqb-true p.start b e) h.0)
   | inr e ↦ rw (e, e) (any_removed_same b ps h.1)
-]
-
-pub none_found : {A : Type 0} (t : A → Bool) (xs : List A) → list_any t xs ≡ false → find t xs ≡ None
-none_found t [] h = refl
-none_found t (x ∷ xs) h = elim (cases_Bool (t x)) [
-  | inl e ↦ let f : true ≡ false = (rw e at h) in absurd (let z : ⊥ = cc in z)
-  | inr e ↦ rw e (none_found t xs (rw e at h))
 ]
 
 pub found_removed_other : (a b : ℕ) (ps : List Place) → (a ≡ b → ⊥) → find (begins a) (remove_found (begins b) ps) ≡ find (begins a) ps

@@ -12,17 +12,20 @@ use Rattle.heap_model.specs.Bits.{starts_at, is_taken, bits_of, word_of}
 use Rattle.heap_model.specs.Backend.{in_span}
 use Rattle.heap_model.specs.Search.{begins_at, is_span_of, hint_or, first_of}
 use Rattle.heap_model.specs.State.{Span, Place, insert_span, is_kind}
+use Rattle.heap_model.proofs.ListLemmas.{filter-insert_span}
 use Rattle.heap_soundness.specs.Sound.{IsOneOf, AreInOrder}
 use Rattle.heap_soundness.proofs.Lists.{all_at, all_weaker, any_found}
-use Rattle.heap_soundness.proofs.GapRuns.{in_filtered as into_filtered, filtered_cases}
+use Rattle.heap_soundness.proofs.GapRuns.{in_filtered, filtered_cases}
 use Rattle.heap_soundness.proofs.Spans.{above, in_inserted, all_inserted, made_in}
 use Rattle.claim_rule.specs.Places.{active_region, bitmaps_region, sizes_region}
 use Rattle.claim_rule.specs.Shown.{flag, tag_of, bitmap_word, size_word}
 use Rattle.search_laws.specs.Calls.{hint_put}
+use Rattle.search_laws.proofs.Passes.{found_there}
+use Rattle.search_laws.proofs.Filtered.{filtered_in_order}
 use Rattle.lfh_claims.specs.Kept.{LfhPart, StandsFor, IsSubsegment, IsBlockOf, spans_for, hint_of, with_subsegment, with_hint}
 use Rattle.lfh_claims.specs.Scan.{AreTagged}
 use Rattle.lfh_claims.proofs.Regions.{same_word, other_word, outside}
-use Rattle.lfh_claims.proofs.Seats.{seat_of, span_of_page, begins_there}
+use Rattle.lfh_claims.proofs.Seats.{seat_of, span_of_page}
 
 ---- Lists with one span more
 
@@ -31,13 +34,6 @@ find_inserted t x [] e = rw e refl
 find_inserted t x (y ∷ ys) e = elim (cases_Bool (ltb x.first y.first)) [
   | inl f ↦ rw (f, e) refl
   | inr f ↦ rw f (elim (cases_Bool (t y)) [ inl g ↦ rw g refl | inr g ↦ rw g (find_inserted t x ys e) ])
-]
-
-filter_inserted : (t : Span → Bool) (x : Span) (ys : List Span) → t x ≡ false → filter t (insert_span x ys) ≡ filter t ys
-filter_inserted t x [] e = rw e refl
-filter_inserted t x (y ∷ ys) e = elim (cases_Bool (ltb x.first y.first)) [
-  | inl f ↦ rw (f, e) refl
-  | inr f ↦ rw f (elim (cases_Bool (t y)) [ inl g ↦ rw g (ap (λ zs. y ∷ zs) (filter_inserted t x ys e)) | inr g ↦ rw g (filter_inserted t x ys e) ])
 ]
 
 apart_inserted : (low : ℕ) (x y : Span) (ys : List Span) → AreInOrder low (insert_span x ys) → IsOneOf y ys → (x.first + x.pages ≤ y.first) ⊎ (y.first + y.pages ≤ x.first)
@@ -55,25 +51,29 @@ apart_inserted low x y (z ∷ zs) a i = elim (cases_Bool (ltb x.first z.first)) 
     behind (inl e) a again = inr (subst (λ (w : Span). w.first + w.pages ≤ x.first) e (above (z.first + z.pages) (insert_span x zs) x a.2 (made_in x zs)).0)
     behind (inr j) a again = again a.2 j
 
-insert_front : (x : Span) (ys : List Span) → ((y : Span) → IsOneOf y ys → x.first < y.first) → insert_span x ys ≡ x ∷ ys
-insert_front x [] h = refl
-insert_front x (y ∷ ys) h = rw (lt-ltb x.first y.first (h y (inl refl))) refl
+in_front : (x : Span) (low : ℕ) (ys : List Span) → x.first < low → AreInOrder low ys → insert_span x ys ≡ x ∷ ys
+in_front x low [] l a = refl
+in_front x low (y ∷ ys) l a = rw (lt-ltb x.first y.first (omega (arith, l, a.0))) refl
 
-pub filter_keeps : (low : ℕ) (t : Span → Bool) (x : Span) (ys : List Span) → t x ≡ true → AreInOrder low (insert_span x ys) → filter t (insert_span x ys) ≡ insert_span x (filter t ys)
-filter_keeps low t x [] e a = rw e refl
-filter_keeps low t x (y ∷ ys) e a = elim (cases_Bool (ltb x.first y.first)) [
-  | inl f ↦ rw (f, e) (sym (insert_front x (filter t (y ∷ ys)) (λ z i. front (rw f at a) z (filtered_cases t z (y ∷ ys) i).0)))
-  | inr f ↦ rw f (elim (cases_Bool (t y)) [
-    | inl g ↦ rw (g, f) (ap (λ zs. y ∷ zs) (filter_keeps (y.first + y.pages) t x ys e (behind (rw f at a))))
-    | inr g ↦ rw g (filter_keeps (y.first + y.pages) t x ys e (behind (rw f at a)))
-  ])
+-- a span that passes a test, put among others in order
+pub filter_keeps : (t : Span → Bool) (x : Span) (low : ℕ) (ys : List Span) → AreInOrder low ys → t x ≡ true → filter t (insert_span x ys) ≡ insert_span x (filter t ys)
+filter_keeps t x low [] a h = rw h refl
+filter_keeps t x low (y ∷ ys) a h = elim (cases_Bool (ltb x.first y.first)) [
+  | inl e ↦
+      let l = ltb-true x.first y.first e in
+      elim (cases_Bool (t y)) [
+        | inl g ↦ rw (e, h, g) (rw e refl)
+        | inr g ↦
+            let front = in_front x (y.first + y.pages) (filter t ys) (omega (arith, l, a.1)) (filtered_in_order t (y.first + y.pages) ys a.2) in
+            rw (e, h, g) (sym front)
+      ]
+  | inr e ↦
+      let again = filter_keeps t x (y.first + y.pages) ys a.2 h in
+      elim (cases_Bool (t y)) [
+        | inl g ↦ rw (e, g) (rw e (ap (λ (zs : List Span). y ∷ zs) again))
+        | inr g ↦ rw (e, g) again
+      ]
 ]
-  where
-    front : AreInOrder low (x ∷ y ∷ ys) → (z : Span) → IsOneOf z (y ∷ ys) → x.first < z.first
-    front a z i = let b = (above (x.first + x.pages) (y ∷ ys) z a.2 i).0 in let c = a.1 in omega arith
-
-    behind : AreInOrder low (y ∷ insert_span x ys) → AreInOrder (y.first + y.pages) (insert_span x ys)
-    behind a = a.2
 
 ---- Hints
 
@@ -87,8 +87,8 @@ put_elsewhere hints b s first c r n = elim (cases_eq c b) [
 ]
 
 -- the word of a hint is this one's alone
-hint_place : (b s c r : ℕ) → s < 16 → r < 16 → 118 + 16 * c + r ≡ 118 + 16 * b + s → (c ≡ b) × (r ≡ s)
-hint_place b s c r l m e = (omega arith, omega arith)
+hint_place : (b s c r : ℕ) → s < 16 → r < 16 → 1 ≤ c → 134 + 16 * (c - 1) + r ≡ 118 + 16 * b + s → (c ≡ b) × (r ≡ s)
+hint_place b s c r l m low e = (omega arith, omega arith)
 
 -- is_span_of, by its parts
 of_one : (b s : ℕ) (x : Span) → x.kind ≡ kinds.Lfh → x.bucket ≡ b → x.slot ≡ s → is_span_of b s x ≡ true
@@ -144,20 +144,20 @@ module _ (l : Limits) (words : List ℕ) (t : LfhPart) (h : StandsFor (record { 
               (x, subst (λ (m : ℕ). IsOneOf x (spans_for t m r)) (sym p.0) (subst (λ (m : ℕ). IsOneOf x (spans_for t b m)) (sym p.1) i), head ∙ k_is)
           by_place (inr n) = h.hinted c r k (sym (put_elsewhere t.hints b s first c r n) ∙ e)
 
-      shown : (c r : ℕ) → 1 ≤ c → c ≤ 128 → r < 16 → slice_index (slice_set words at first) (118 + 16 * c + r) ≡ unwrap_or (hint_of (with_hint t b s first) c r) 0
+      shown : (c r : ℕ) → 1 ≤ c → c ≤ 128 → r < 16 → slice_index (slice_set words at first) (134 + 16 * (c - 1) + r) ≡ unwrap_or (hint_of (with_hint t b s first) c r) 0
       shown c r lo hi m = by_place (same_or_not c r)
         where
-          by_place : ((c ≡ b) × (r ≡ s)) ⊎ (c ≡ b → r ≡ s → ⊥) → slice_index (slice_set words at first) (118 + 16 * c + r) ≡ unwrap_or (hint_of (with_hint t b s first) c r) 0
+          by_place : ((c ≡ b) × (r ≡ s)) ⊎ (c ≡ b → r ≡ s → ⊥) → slice_index (slice_set words at first) (134 + 16 * (c - 1) + r) ≡ unwrap_or (hint_of (with_hint t b s first) c r) 0
           by_place (inl p) =
-              let place : 118 + 16 * c + r ≡ at = omega (arith, at_is, p.0, p.1) in
+              let place : 134 + 16 * (c - 1) + r ≡ at = omega (arith, at_is, p.0, p.1, lo) in
               ap (slice_index (slice_set words at first)) place ∙ same_word words at first long
               ∙ sym (ap (λ o. unwrap_or (hint_or o (first_of (spans_for t c r))) 0) (ap (λ (m : ℕ). hint_put t.hints b s first m r) p.0 ∙ ap (λ (m : ℕ). hint_put t.hints b s first b m) p.1 ∙ put_here t.hints b s first))
           by_place (inr n) =
-              other_word words at first (118 + 16 * c + r) (λ f. let q = hint_place b s c r slot m (f ∙ at_is) in n q.0 q.1) ∙ h.shown c r lo hi m
+              other_word words at first (134 + 16 * (c - 1) + r) (λ f. let q = hint_place b s c r slot m lo (f ∙ at_is) in n q.0 q.1) ∙ h.shown c r lo hi m
               ∙ sym (ap (λ o. unwrap_or (hint_or o (first_of (spans_for t c r))) 0) (put_elsewhere t.hints b s first c r n))
 
 module _ (l : Limits) (words new : List ℕ) (t : LfhPart) (h : StandsFor (record { limits = l; words = words }) t) (x : Span) (sub : IsSubsegment l x) (order : AreInOrder 0 (insert_span x t.spans))
-    (tagged : AreTagged words new x.first x.pages (tag_of x)) where
+    (tagged : AreTagged l words new x.first x.pages (tag_of x)) where
   abbrev more : List Span
   more = insert_span x t.spans
 
@@ -210,7 +210,7 @@ module _ (l : Limits) (words new : List ℕ) (t : LfhPart) (h : StandsFor (recor
         ap (λ (n : ℕ). bitmap_word t.places t.spans n w) e
         ∙ ap (λ o. unwrap_or (option_map (λ y. bits_of t.places y w) o) 0) (none_there t.spans other_first)
         ∙ sym (no_bits w 0 64)
-        ∙ sym (ap (λ o. unwrap_or (option_map (λ y. bits_of t.places y w) o) 0) (begins_there more x order (made_in x t.spans)))
+        ∙ sym (ap (λ o. unwrap_or (option_map (λ y. bits_of t.places y w) o) 0) (found_there 0 more x order (made_in x t.spans)))
         ∙ sym (ap (λ (n : ℕ). bitmap_word t.places more n w) e)
     | inr n ↦ sym (ap (λ o. unwrap_or (option_map (λ y. bits_of t.places y w) o) 0) (find_inserted (begins_at page) x t.spans (ne_eqb x.first page (λ f. n (sym f)))))
   ]
@@ -267,25 +267,25 @@ module _ (l : Limits) (words new : List ℕ) (t : LfhPart) (h : StandsFor (recor
         by_place (inl p) =
             let same : Some x.first ≡ Some k = sym (put_here t.hints x.bucket x.slot x.first) ∙ sym (ap (λ (m : ℕ). hint_put t.hints x.bucket x.slot x.first m x.slot) p.0) ∙ sym (ap (λ (m : ℕ). hint_put t.hints x.bucket x.slot x.first c m) p.1) ∙ e in
             let k_is : x.first ≡ k = cc in
-            (x, into_filtered (is_span_of c r) x more (of_one c r x sub.kind (sym p.0) (sym p.1)) (made_in x t.spans), k_is)
+            (x, in_filtered (is_span_of c r) x more (of_one c r x sub.kind (sym p.0) (sym p.1)) (made_in x t.spans), k_is)
         by_place (inr n) =
             let o = h.hinted c r k (sym (put_elsewhere t.hints x.bucket x.slot x.first c r n) ∙ e) in
             let q = filtered_cases (is_span_of c r) o.0 t.spans o.1 in
-            (o.0, into_filtered (is_span_of c r) o.0 more q.1 (in_inserted x o.0 t.spans q.0), o.2)
+            (o.0, in_filtered (is_span_of c r) o.0 more q.1 (in_inserted x o.0 t.spans q.0), o.2)
 
-    shown_after : (c r : ℕ) → 1 ≤ c → c ≤ 128 → r < 16 → slice_index (slice_set new at x.first) (118 + 16 * c + r) ≡ unwrap_or (hint_of (with_subsegment t x) c r) 0
+    shown_after : (c r : ℕ) → 1 ≤ c → c ≤ 128 → r < 16 → slice_index (slice_set new at x.first) (134 + 16 * (c - 1) + r) ≡ unwrap_or (hint_of (with_subsegment t x) c r) 0
     shown_after c r lo hi m = by_place (same_or_not c r)
       where
-        by_place : ((c ≡ x.bucket) × (r ≡ x.slot)) ⊎ (c ≡ x.bucket → r ≡ x.slot → ⊥) → slice_index (slice_set new at x.first) (118 + 16 * c + r) ≡ unwrap_or (hint_of (with_subsegment t x) c r) 0
+        by_place : ((c ≡ x.bucket) × (r ≡ x.slot)) ⊎ (c ≡ x.bucket → r ≡ x.slot → ⊥) → slice_index (slice_set new at x.first) (134 + 16 * (c - 1) + r) ≡ unwrap_or (hint_of (with_subsegment t x) c r) 0
         by_place (inl p) =
-            let place : 118 + 16 * c + r ≡ at = omega (arith, at_is, p.0, p.1) in
+            let place : 134 + 16 * (c - 1) + r ≡ at = omega (arith, at_is, p.0, p.1, lo) in
             ap (slice_index (slice_set new at x.first)) place ∙ same_word new at x.first long
             ∙ sym (ap (λ o. unwrap_or (hint_or o (first_of (filter (is_span_of c r) more))) 0) (ap (λ (m : ℕ). hint_put t.hints x.bucket x.slot x.first m r) p.0 ∙ ap (λ (m : ℕ). hint_put t.hints x.bucket x.slot x.first x.bucket m) p.1 ∙ put_here t.hints x.bucket x.slot x.first))
         by_place (inr n) =
-            other_word new at x.first (118 + 16 * c + r) (λ f. let q = hint_place x.bucket x.slot c r slots m (f ∙ at_is) in n q.0 q.1)
-            ∙ elsewhere (118 + 16 * c + r) (inl (omega (arith, hi, m))) ∙ h.shown c r lo hi m
+            other_word new at x.first (134 + 16 * (c - 1) + r) (λ f. let q = hint_place x.bucket x.slot c r slots m lo (f ∙ at_is) in n q.0 q.1)
+            ∙ elsewhere (134 + 16 * (c - 1) + r) (inl (omega (arith, hi, m))) ∙ h.shown c r lo hi m
             ∙ sym (ap (λ o. unwrap_or (hint_or o (first_of (filter (is_span_of c r) more))) 0) (put_elsewhere t.hints x.bucket x.slot x.first c r n)
-            ∙ ap (λ ys. unwrap_or (hint_or (t.hints c r) (first_of ys)) 0) (filter_inserted (is_span_of c r) x t.spans (of_others c r x n)))
+            ∙ ap (λ ys. unwrap_or (hint_or (t.hints c r) (first_of ys)) 0) (filter-insert_span (is_span_of c r) x t.spans (of_others c r x n)))
 
     pub subsegment_stands : StandsFor (record { limits = l; words = slice_set new at x.first }) (with_subsegment t x)
     subsegment_stands = record {

@@ -1,5 +1,5 @@
 -- What the words of the low-fragmentation front end stand for, and what a call makes of it.
-use Rattle.std.specs.Prelude.{◌≡◌, ℕ, ◌+◌, ◌*◌, ◌/◌, ◌%◌, ◌<◌, ◌≤◌, Bool, true, false, List, [], ◌∷◌, length, slice_index, Option, Some, None, option_map, option_and_then, unwrap_or, filter}
+use Rattle.std.specs.Prelude.{◌≡◌, ℕ, ◌+◌, ◌-◌, ◌*◌, ◌/◌, ◌%◌, ◌<◌, ◌≤◌, Bool, true, false, List, [], ◌∷◌, length, slice_index, Option, Some, None, option_map, option_and_then, unwrap_or, filter}
 use Rattle.std.specs.List.{find, AllByRecursion}
 use Rattle.heap_model.specs.declared.Kind.TheVariants as kinds
 use Rattle.heap_model.specs.declared.Layer.TheVariants as layers
@@ -13,7 +13,7 @@ use Rattle.heap_model.specs.Search.{is_span_of, first_of, hint_or}
 use Rattle.heap_model.specs.Legal.{with_status}
 use Rattle.heap_soundness.specs.Sound.{IsOneOf, AreInOrder}
 use Rattle.search_laws.specs.Calls.{hint_put}
-use Rattle.claim_rule.specs.Places.{active_region, bitmaps_region, sizes_region, word_count}
+use Rattle.claim_rule.specs.Places.{active_region, hints_region, tags_region, bitmaps_region, sizes_region, word_count}
 use Rattle.claim_rule.specs.Shown.{AreShown, flag, tag_of, bitmap_word, size_word}
 
 -- what the code keeps
@@ -80,8 +80,8 @@ pub record StandsFor (k : LfhKept) (t : LfhPart) : Type 0 where
   pub active : AreShown k.words active_region (λ i. flag (t.active (i + 1)))
   pub bitmaps : AreShown k.words (bitmaps_region k.limits) (λ i. bitmap_word t.places t.spans (i / 4) (i % 4))
   pub sizes : AreShown k.words (sizes_region k.limits) (size_word t.places)
-  pub tags : (page : ℕ) → page < 256 * k.limits.segments → slice_index k.words (2182 + page) ≡ unwrap_or (option_map tag_of (find (in_span page) t.spans)) 0
-  pub shown : (b slot : ℕ) → 1 ≤ b → b ≤ 128 → slot < 16 → slice_index k.words (118 + 16 * b + slot) ≡ unwrap_or (hint_of t b slot) 0
+  pub tags : AreShown k.words (tags_region k.limits) (λ page. unwrap_or (option_map tag_of (find (in_span page) t.spans)) 0)
+  pub shown : (b slot : ℕ) → 1 ≤ b → b ≤ 128 → slot < 16 → slice_index k.words (hints_region.from + 16 * (b - 1) + slot) ≡ unwrap_or (hint_of t b slot) 0
 
 abbrev pub size_at : List Place → ℕ → Option ℕ
 size_at ps a = option_and_then (λ p. live_size p.status) (find (has_address a) ps)
@@ -111,10 +111,6 @@ pub record IsFree (t : LfhPart) (b first i : ℕ) : Type 0 where
   pub clear : starts_at t.places (block_address b first i) ≡ false
 
 ---- The effects
-
--- block i of the subsegment of bucket b at page first, of so many bytes
-abbrev pub live_block : ℕ → ℕ → ℕ → ℕ → Place
-live_block b first i size = record { start = block_address b first i; granules = block_size b / 16; layer = layers.Lfh; status = Live size }
 
 -- a subsegment of a bucket and a slot is the hint of both ..
 abbrev pub with_hint : LfhPart → ℕ → ℕ → ℕ → LfhPart

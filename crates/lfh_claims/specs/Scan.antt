@@ -1,39 +1,21 @@
 -- What a search reads in the words of the front end, and what a call stores there.
-use Rattle.std.specs.Prelude.{◌≡◌, ◌⊎◌, ℕ, zero, suc, ◌+◌, ◌*◌, ◌/◌, ◌%◌, ◌^◌, ◌<◌, ◌≤◌, nat_le, List, filter, length, slice_index, slice_set, bit_or, Option, None, option_map}
+use Rattle.std.specs.Prelude.{◌≡◌, ◌⊎◌, ℕ, zero, suc, ◌+◌, ◌*◌, ◌%◌, ◌^◌, ◌<◌, ◌≤◌, nat_le, List, filter, length, slice_index, slice_set, bit_or, Option, None, option_map}
 use Rattle.std.specs.Option.{option_or}
-use Rattle.heap_model.specs.declared.Kind.TheVariants as kinds
 use Rattle.heap_model.specs.declared.Limits.{Limits}
-use Rattle.heap_model.specs.declared.Mark.{Mark}
-use Rattle.heap_model.specs.Limits.{AreValid}
 use Rattle.heap_model.specs.Buckets.{valid_bits}
 use Rattle.heap_model.specs.Bits.{pick}
 use Rattle.heap_model.specs.State.{Span}
 use Rattle.heap_model.specs.Search.{SearchKey}
 use Rattle.heap_soundness.specs.Sound.{IsOneOf}
 use Rattle.search_laws.specs.Reading.{Found, word_behind, pass_found}
-use Rattle.claim_rule.specs.Places.{word_count}
+use Rattle.claim_rule.specs.Places.{tags_region}
+use Rattle.table_words.specs.Told.{bitmap_place, size_place}
 use Rattle.lfh_claims.specs.Kept.{LfhPart, StandsFor, spans_for}
 use Rattle.lfh_claims.specs.Takes.{at_hint}
-use Rattle.lfh_claims.specs.declared.search.Seat.{Seat}
+use Rattle.lfh_claims.specs.declared.search.BlockId.{BlockId}
 
--- the words are those of a heap with these limits
-pub record AreWords (l : Limits) (words : List ℕ) : Type 0 where
-  pub limits : AreValid l
-  pub as_long : length words ≡ word_count l
-
--- where the bitmap word of block i is, and the size word of an address
-abbrev pub bitmap_place : Limits → ℕ → ℕ → ℕ
-bitmap_place l head i = 2182 + 256 * l.segments + 4 * head + i / 64
-
-abbrev pub size_place : Limits → ℕ → ℕ
-size_place l addr = 2182 + 1280 * l.segments + addr / 16
-
--- word w of the bitmap of the subsegment at a page
-abbrev pub bits_in : Limits → List ℕ → ℕ → ℕ → ℕ
-bits_in l words head w = slice_index words (2182 + 256 * l.segments + 4 * head + w)
-
-abbrev pub key_of : ℕ → ℕ → ℕ → SearchKey
-key_of b slot draw = record { bucket = b; slot = slot; draw = draw }
+abbrev pub search_key : ℕ → ℕ → ℕ → SearchKey
+search_key b slot draw = record { bucket = b; slot = slot; draw = draw }
 
 -- the block that the draw picks in the word behind k others
 abbrev pub picked_in : (ℕ → ℕ) → SearchKey → ℕ → Option ℕ
@@ -50,25 +32,21 @@ words_with l words head i addr size =
     slice_set (slice_set words (bitmap_place l head i) (bit_or (slice_index words (bitmap_place l head i)) (1 * 2 ^ (i % 64) % 2 ^ 64))) (size_place l addr) (size + 1)
 
 -- the tags of some pages are this word, and nothing else has changed
-pub record AreTagged (old new : List ℕ) (head pages tag : ℕ) : Type 0 where
+pub record AreTagged (l : Limits) (old new : List ℕ) (head pages tag : ℕ) : Type 0 where
   pub as_long : length new ≡ length old
-  pub tagged : (k : ℕ) → k < pages → slice_index new (2182 + head + k) ≡ tag
-  pub others : (i : ℕ) → ((k : ℕ) → k < pages → i ≡ 2182 + head + k → ⊥) → slice_index new i ≡ slice_index old i
+  pub tagged : (k : ℕ) → k < pages → slice_index new ((tags_region l).from + head + k) ≡ tag
+  pub others : (i : ℕ) → ((k : ℕ) → k < pages → i ≡ (tags_region l).from + head + k → ⊥) → slice_index new i ≡ slice_index old i
 
-abbrev pub seat_of : Found → Seat
-seat_of f = record { head = f.span.first; index = f.index }
+abbrev pub id_of : Found → BlockId
+id_of f = record { head = f.span.first; index = f.index }
 
 -- what a pass finds, in each front end that the words show
-abbrev pub IsPass : Limits → List ℕ → SearchKey → Option Seat → Type 0
+abbrev pub IsPass : Limits → List ℕ → SearchKey → Option BlockId → Type 0
 IsPass l words g found =
-    (t : LfhPart) → StandsFor (record { limits = l; words = words }) t → found ≡ option_map seat_of (pass_found t.places g (spans_for t g.bucket g.slot))
+    (t : LfhPart) → StandsFor (record { limits = l; words = words }) t → found ≡ option_map id_of (pass_found t.places g (spans_for t g.bucket g.slot))
 
-abbrev pub IsAtHint : Limits → List ℕ → SearchKey → Option Seat → Type 0
-IsAtHint l words g found = (t : LfhPart) → StandsFor (record { limits = l; words = words }) t → found ≡ option_map seat_of (at_hint t g)
-
--- the mark of a subsegment
-abbrev pub lfh_mark : ℕ → ℕ → Mark
-lfh_mark b slot = record { kind = kinds.Lfh; bucket = b; slot = slot; unused = 0 }
+abbrev pub IsAtHint : Limits → List ℕ → SearchKey → Option BlockId → Type 0
+IsAtHint l words g found = (t : LfhPart) → StandsFor (record { limits = l; words = words }) t → found ≡ option_map id_of (at_hint t g)
 
 -- the spans that begin at a page or behind it
 abbrev pub from_on : ℕ → List Span → List Span

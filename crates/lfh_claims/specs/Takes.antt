@@ -1,5 +1,8 @@
 -- What a search of the low-fragmentation front end takes.
 use Rattle.std.specs.Prelude.{◌≡◌, ℕ, ◌∷◌, List, Option, Some, None, option_map, unwrap_or, filter}
+use Rattle.heap_model.specs.declared.Kind.TheVariants as kinds
+use Rattle.heap_model.specs.declared.Mark.{Mark}
+use Rattle.heap_model.specs.declared.Run.{Run}
 use Rattle.heap_model.specs.Buckets.{bucket_pages, block_address}
 use Rattle.heap_model.specs.State.{Area, Span}
 use Rattle.heap_model.specs.Backend.{back_place}
@@ -8,7 +11,7 @@ use Rattle.heap_model.specs.Legal.{with_span}
 use Rattle.search_laws.specs.Reading.{Found, found_of, pass_found, lfh_block}
 use Rattle.search_laws.specs.Calls.{hint_put, lfh_span}
 use Rattle.claim_rule.specs.Shown.{lfh_spans}
-use Rattle.backend_fit.specs.Kept.{Kept, area_of, with_segment}
+use Rattle.backend_fit.specs.Kept.{Kept, area_of, taken_in, with_segment, marked_run, insert_run}
 use Rattle.lfh_claims.specs.Kept.{LfhKept, LfhPart, StandsFor, spans_for, hint_of, with_places}
 
 -- it stands for a front end whose subsegments are those of an area
@@ -35,6 +38,14 @@ at_hint t g = pass_found t.places g (hinted_span t g.bucket g.slot)
 abbrev pub in_pass : LfhPart → SearchKey → Option Found
 in_pass t g = pass_found t.places g (spans_for t g.bucket g.slot)
 
+-- the mark of a subsegment
+abbrev pub lfh_mark : ℕ → ℕ → Mark
+lfh_mark b slot = record { kind = kinds.Lfh; bucket = b; slot = slot; unused = 0 }
+
+-- the run of a subsegment at this page
+abbrev pub lfh_run : ℕ → ℕ → ℕ → Run
+lfh_run first b slot = marked_run first (bucket_pages b) (lfh_mark b slot)
+
 -- A block of the hint's span was taken, and nothing else changed ..
 pub record TakesAtHint (old new : LfhKept) (before after : Kept) (t : LfhPart) (g : SearchKey) (size addr : ℕ) (f : Found) : Type 0 where
   pub found : at_hint t g ≡ Some f
@@ -57,6 +68,7 @@ pub record TakesNewSpan (old new : LfhKept) (before after : Kept) (t : LfhPart) 
   pub place : back_place (area_of before) before.region.segments (bucket_pages g.bucket) ≡ Some first
   pub address : addr ≡ block_address g.bucket first (own_block g)
   pub area : area_of after ≡ with_span (with_segment (area_of before) first) (lfh_span first g.bucket g.slot)
+  pub runs : taken_in after.words ≡ insert_run (lfh_run first g.bucket g.slot) (taken_in before.words)
   pub segments : after.region.segments ≡ before.region.segments
   pub part : LfhPart
   pub spans : part.spans ≡ lfh_spans (area_of after)
@@ -65,11 +77,15 @@ pub record TakesNewSpan (old new : LfhKept) (before after : Kept) (t : LfhPart) 
   pub active : part.active ≡ t.active
   pub stands : StandsIn new (area_of after) part
 
--- No subsegment has a free block and no range fits one more, and nothing changed.
-pub record TakesNone (old new : LfhKept) (before after : Kept) (t : LfhPart) (g : SearchKey) : Type 0 where
+-- No subsegment has a free block and no range fits one more ..
+pub record FindsNone (before : Kept) (t : LfhPart) (g : SearchKey) : Type 0 where
   pub at_hint_none : at_hint t g ≡ None
   pub in_pass_none : in_pass t g ≡ None
   pub place : back_place (area_of before) before.region.segments (bucket_pages g.bucket) ≡ None
+
+-- .. and nothing changed.
+pub record TakesNone (old new : LfhKept) (before after : Kept) (t : LfhPart) (g : SearchKey) : Type 0 where
+  pub finds : FindsNone before t g
   pub back : after ≡ before
   pub same : new ≡ old
 

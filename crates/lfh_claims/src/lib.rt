@@ -18,8 +18,8 @@ ghost use Rattle.std.specs.Prelude.{◌≡◌, ◌<◌, ◌≤◌, IfOk};
 ghost use Rattle.heap_model.specs.Limits.{AreValid};
 ghost use Rattle.heap_model.specs.Buckets.{block_size};
 ghost use Rattle.backend_fit.specs.Kept.{area_of};
-ghost use Rattle.lfh_claims.specs.Scan.{key_of, lfh_mark};
-ghost use Rattle.lfh_claims.specs.Takes.{StandsIn, TakesOrNot};
+ghost use Rattle.lfh_claims.specs.Scan.{search_key};
+ghost use Rattle.lfh_claims.specs.Takes.{StandsIn, lfh_mark, TakesOrNot};
 ghost use Rattle.lfh_buckets.specs.Blocks.{IsBucket};
 ghost use Rattle.lfh_claims.specs.Kept.{LfhPart, StandsFor, no_part, HasBlock, HasRoom, size_at, without_block, with_size, with_active};
 
@@ -27,7 +27,7 @@ use backend_fit::Back;
 use heap_model::{Kind, Limits, Mark, OutOfMemory};
 use lfh_buckets::{index_of, pages};
 use random_pick::Draw;
-use search::{Seat, first_free, hinted, own_block, put, tag_pages, tag_start};
+use search::{BlockId, first_free, hinted, own_block, put, tag_pages, tag_start};
 use std::alloc::Global;
 use std::marker::Model;
 pub use table_words::Words;
@@ -96,7 +96,7 @@ impl PlainLfh {
         self.words.set(active_at(bucket), 1);
     }
 
-    /// The words, for a walk over them.
+    /// The words, as an image of the heap keeps them.
     pub fn into_words(self) -> Words
         ensures { result ≡ self.words }
     {
@@ -148,16 +148,16 @@ impl PlainLfh {
         requires size { (size ≤ block_size bucket) × (size ≤ 16368) }
         requires segments { back.old.region.segments ≡ self.old.limits.segments }
         requires spans { (t : LfhPart) × StandsIn self.old (area_of back.old) t }
-        ensures takes { (t : LfhPart) → StandsIn self.old (area_of back.old) t → TakesOrNot self.old self.new back.old back.new t (key_of bucket slot draw.value) size result }
+        ensures takes { (t : LfhPart) → StandsIn self.old (area_of back.old) t → TakesOrNot self.old self.new back.old back.new t (search_key bucket slot draw.value) size result }
         ensures limits { self.new.limits ≡ self.old.limits }
     {
         let limits = &self.limits;
-        if let Some(seat) = hinted(&self.words, limits, bucket, slot, draw) {
-            return Some(put(&mut self.words, limits, bucket, seat, size));
+        if let Some(block) = hinted(&self.words, limits, bucket, slot, draw) {
+            return Some(put(&mut self.words, limits, bucket, block, size));
         }
-        if let Some(seat) = first_free(&self.words, limits, bucket, slot, draw) {
-            self.words.set(hint_at(bucket, slot), u64::from(seat.head));
-            return Some(put(&mut self.words, limits, bucket, seat, size));
+        if let Some(block) = first_free(&self.words, limits, bucket, slot, draw) {
+            self.words.set(hint_at(bucket, slot), u64::from(block.head));
+            return Some(put(&mut self.words, limits, bucket, block, size));
         }
         let pages = pages(bucket);
         let head = back.take(pages, mark_of(bucket, slot))?;
@@ -166,7 +166,8 @@ impl PlainLfh {
         tag_pages(&mut self.words, limits, head, pages, tag);
         self.words.set(hint_at(bucket, slot), u64::from(head));
         let index = own_block(bucket, draw);
-        Some(put(&mut self.words, limits, bucket, Seat { head, index }, size))
+        let block = BlockId { head, index };
+        Some(put(&mut self.words, limits, bucket, block, size))
     }
 }
 

@@ -3,8 +3,10 @@
 ghost use Rattle.std.specs.Prelude.{slice_index, ◌≡◌, ◌+◌, ◌*◌, ◌-◌, ◌<◌, ◌≤◌};
 ghost use Rattle.heap_model.specs.Buckets.{bucket_pages, block_address, block_count, words_in_use};
 ghost use Rattle.heap_model.specs.Search.{own_block as own_number};
+ghost use Rattle.claim_rule.specs.Places.{hints_region};
 ghost use Rattle.lfh_buckets.specs.Blocks.{IsBucket};
-ghost use Rattle.lfh_claims.specs.Scan.{AreWords, AreTagged, IsPass, IsAtHint, IsComing, bits_in, key_of, scan, words_with};
+ghost use Rattle.lfh_claims.specs.Scan.{AreTagged, IsPass, IsAtHint, IsComing, search_key, scan, words_with};
+ghost use Rattle.table_words.specs.Told.{AreWords, bits_in};
 
 use claim_rule::TAGS;
 use heap_model::Limits;
@@ -24,7 +26,7 @@ const SEGMENT_PAGES: usize = 256;
 
 /// A block of a subsegment, by the first page and the number.
 #[derive(Clone, Copy, Debug, PartialEq, Eq)]
-pub struct Seat {
+pub struct BlockId {
     pub head: u32,
     pub index: u16,
 }
@@ -34,7 +36,7 @@ pub fn free_block(words: &Words, limits: &Limits, bucket: u8, head: u32, draw: D
     requires words { AreWords limits.now words.now }
     requires bucket { IsBucket bucket }
     requires head { head < 256 * limits.now.segments }
-    ensures { result ≡ scan (bits_in limits.now words.now head) (key_of bucket 0 draw.value) (words_in_use bucket) 0 }
+    ensures { result ≡ scan (bits_in limits.now words.now head) (search_key bucket 0 draw.value) (words_in_use bucket) 0 }
 {
     let in_use = count(bucket).div_ceil(WORD_BITS);
     let first = draw.value / WORD_BITS % in_use;
@@ -49,12 +51,12 @@ pub fn free_block(words: &Words, limits: &Limits, bucket: u8, head: u32, draw: D
 }
 
 /// The free block of the subsegment that the hint names.
-pub fn hinted(words: &Words, limits: &Limits, bucket: u8, slot: u8, draw: Draw) -> Option<Seat>
+pub fn hinted(words: &Words, limits: &Limits, bucket: u8, slot: u8, draw: Draw) -> Option<BlockId>
     requires words { AreWords limits.now words.now }
     requires bucket { IsBucket bucket }
     requires slot { slot < 16 }
-    requires hint { slice_index words.now (118 + 16 * bucket + slot) < 256 * limits.now.segments }
-    ensures { IsAtHint limits.now words.now (key_of bucket slot draw.value) result }
+    requires hint { slice_index words.now (hints_region.from + 16 * (bucket - 1) + slot) < 256 * limits.now.segments }
+    ensures { IsAtHint limits.now words.now (search_key bucket slot draw.value) result }
 {
     let hint = words.at(hint_at(bucket, slot));
     if hint == 0 {
@@ -62,7 +64,7 @@ pub fn hinted(words: &Words, limits: &Limits, bucket: u8, slot: u8, draw: Draw) 
     }
     let head = hint as u32;
     match free_block(words, limits, bucket, head, draw) {
-        Some(index) => Some(Seat { head, index }),
+        Some(index) => Some(BlockId { head, index }),
         None => None,
     }
 }
@@ -70,7 +72,7 @@ pub fn hinted(words: &Words, limits: &Limits, bucket: u8, slot: u8, draw: Draw) 
 /// The block that a draw picks in a subsegment that has none yet.
 pub fn own_block(bucket: u8, draw: Draw) -> u16
     requires { IsBucket bucket }
-    ensures { result ≡ own_number (key_of bucket 0 draw.value) }
+    ensures { result ≡ own_number (search_key bucket 0 draw.value) }
 {
     let word = draw.value / WORD_BITS % count(bucket).div_ceil(WORD_BITS);
     let bit = pick(0, valid_bits(bucket, word), draw.value % WORD_BITS).unwrap_or(0);
@@ -78,11 +80,17 @@ pub fn own_block(bucket: u8, draw: Draw) -> u16
 }
 
 /// The free block that a pass finds over the subsegments of a bucket and a slot, in the order of their pages.
-pub fn first_free(words: &Words, limits: &Limits, bucket: u8, slot: u8, draw: Draw) -> Option<Seat>
+pub fn first_free(
+    words: &Words,
+    limits: &Limits,
+    bucket: u8,
+    slot: u8,
+    draw: Draw,
+) -> Option<BlockId>
     requires words { AreWords limits.now words.now }
     requires bucket { IsBucket bucket }
     requires slot { slot < 16 }
-    ensures { IsPass limits.now words.now (key_of bucket slot draw.value) result }
+    ensures { IsPass limits.now words.now (search_key bucket slot draw.value) result }
 {
     let tags = &words.as_slice()[TAGS..TAGS + SEGMENT_PAGES * limits.segments as usize];
     let tag = tag_start(bucket, slot);
@@ -91,7 +99,7 @@ pub fn first_free(words: &Words, limits: &Limits, bucket: u8, slot: u8, draw: Dr
     while let Some(page) = next_match(tags, TAG_MASK, tag, from) {
         let head = page as u32;
         if let Some(index) = free_block(words, limits, bucket, head, draw) {
-            return Some(Seat { head, index });
+            return Some(BlockId { head, index });
         }
         from = page + step;
     }
@@ -106,19 +114,19 @@ pub fn tag_start(bucket: u8, slot: u8) -> u64
 }
 
 /// Stores the bit and the size of a block, and answers its address.
-pub fn put(words: &mut Words, limits: &Limits, bucket: u8, seat: Seat, size: u64) -> u64
+pub fn put(words: &mut Words, limits: &Limits, bucket: u8, block: BlockId, size: u64) -> u64
     requires words { AreWords limits.now words.old }
     requires bucket { IsBucket bucket }
-    requires head { seat.head + bucket_pages bucket ≤ 256 * limits.now.segments }
-    requires index { seat.index < block_count bucket }
+    requires head { block.head + bucket_pages bucket ≤ 256 * limits.now.segments }
+    requires index { block.index < block_count bucket }
     requires size { size ≤ 16368 }
-    ensures address { result ≡ block_address bucket seat.head seat.index }
-    ensures words { words.new ≡ words_with limits.now words.old seat.head seat.index (block_address bucket seat.head seat.index) size }
+    ensures address { result ≡ block_address bucket block.head block.index }
+    ensures words { words.new ≡ words_with limits.now words.old block.head block.index (block_address bucket block.head block.index) size }
 {
-    let addr = block_at(bucket, seat.head, seat.index);
-    let at = bitmap_at(limits, seat.head, u32::from(seat.index) / WORD_BITS);
+    let addr = block_at(bucket, block.head, block.index);
+    let at = bitmap_at(limits, block.head, u32::from(block.index) / WORD_BITS);
     let bits = words.at(at);
-    words.set(at, bits | 1u64 << (u32::from(seat.index) % WORD_BITS));
+    words.set(at, bits | 1u64 << (u32::from(block.index) % WORD_BITS));
     words.set(size_at(limits, (addr / 16) as u32), size + 1);
     addr
 }
@@ -127,7 +135,7 @@ pub fn put(words: &mut Words, limits: &Limits, bucket: u8, seat: Seat, size: u64
 pub fn tag_pages(words: &mut Words, limits: &Limits, head: u32, pages: u32, tag: u64)
     requires words { AreWords limits.now words.old }
     requires pages { head + pages ≤ 256 * limits.now.segments }
-    ensures { AreTagged words.old words.new head pages tag }
+    ensures { AreTagged limits.now words.old words.new head pages tag }
 {
     for page in 0..pages {
         words.set(tag_at(limits, head + page), tag);

@@ -16,13 +16,16 @@ use heap_model::{Limits, OutOfMemory};
 use std::alloc::Global;
 use std::marker::Model;
 
-/// The words of a region for each page, bitmap and granule of a segment, and behind them all.
+/// The pages of a segment.
 const SEGMENT_PAGES: usize = 256;
 
+/// The granules of a segment.
 const SEGMENT_GRANULES: usize = 65536;
 
+/// The data words of a segment.
 const SEGMENT_WORDS: usize = 131_072;
 
+/// The data words of a page of the large area.
 const PAGE_WORDS: usize = 512;
 
 /// The bitmap words of a page.

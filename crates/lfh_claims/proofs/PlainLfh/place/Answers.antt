@@ -8,13 +8,14 @@ use Rattle.search_laws.specs.Reading.{lfh_block}
 use Rattle.search_laws.specs.Calls.{lfh_span, hint_put}
 use Rattle.backend_fit.specs.Kept.{area_of}
 use Rattle.claim_rule.specs.Shown.{tag_of}
-use Rattle.lfh_claims.specs.Kept.{LfhPart, StandsFor, live_block, with_block, with_hint, with_subsegment}
+use Rattle.lfh_claims.specs.Kept.{LfhPart, StandsFor, with_block, with_hint, with_subsegment}
 use Rattle.lfh_claims.specs.Takes.{at_hint, in_pass, AtHint, InPass, NewSpan}
-use Rattle.lfh_claims.specs.Scan.{key_of}
+use Rattle.lfh_claims.specs.Scan.{search_key}
 use Rattle.lfh_claims.proofs.Hints.{hint_below}
 use Rattle.lfh_claims.proofs.Scans.{own_fits}
 use Rattle.lfh_claims.proofs.Made.{IsMade, made}
-use Rattle.lfh_claims.proofs.Takings.{seat_found, none_found, free_at_hint, free_in_pass, seat_fits, puts, puts_found, hint_put_stands, free_after_hint, new_stands, free_in_new, tagged_as}
+use Rattle.lfh_claims.proofs.Takings.{id_found, none_found, free_at_hint, free_in_pass, block_fits, puts, puts_found, hint_put_stands, free_after_hint, new_stands, free_in_new, tagged_as}
+use Rattle.lfh_claims.proofs.Puts.{block_of}
 use Rattle.lfh_claims.proofs.PlainLfh.place.Goals as goal
 
 pub hinted-requires-clause-hint : goal.hinted-requires-clause-hint
@@ -31,9 +32,9 @@ put-requires-clause-head c =
     let t : LfhPart = c.requires.spans.0 in
     let h : StandsFor (record { limits = c.self.inside.limits; words = c.self.inside.words }) t = subst (λ k. StandsFor k t) (sym c.self.view_is) c.requires.spans.1.stands in
     let t_spans = c.requires.spans.1.spans in
-    let q = seat_found (at_hint t (key_of c.args.bucket c.args.slot c.args.draw.value)) c.in-Some.seat (sym c.in-Some.is ∙ c.hinted.ensures t h) in
-    let f = free_at_hint c.self.inside.limits c.self.inside.words t h c.args.bucket c.args.slot c.args.draw.value c.requires.bucket S c.in-Some.seat q in
-    (seat_fits c.self.inside.limits c.self.inside.words t h c.args.bucket c.args.slot c.args.draw.value c.requires.bucket S c.in-Some.seat.head c.in-Some.seat.index f).0
+    let q = id_found (at_hint t (search_key c.args.bucket c.args.slot c.args.draw.value)) c.in-Some.block (sym c.in-Some.is ∙ c.hinted.ensures t h) in
+    let f = free_at_hint c.self.inside.limits c.self.inside.words t h c.args.bucket c.args.slot c.args.draw.value c.requires.bucket S c.in-Some.block q in
+    (block_fits c.self.inside.limits c.self.inside.words t h c.args.bucket c.args.slot c.args.draw.value c.requires.bucket S c.in-Some.block.head c.in-Some.block.index f).0
 
 pub put-requires-clause-index : goal.put-requires-clause-index
 put-requires-clause-index c =
@@ -41,9 +42,9 @@ put-requires-clause-index c =
     let t : LfhPart = c.requires.spans.0 in
     let h : StandsFor (record { limits = c.self.inside.limits; words = c.self.inside.words }) t = subst (λ k. StandsFor k t) (sym c.self.view_is) c.requires.spans.1.stands in
     let t_spans = c.requires.spans.1.spans in
-    let q = seat_found (at_hint t (key_of c.args.bucket c.args.slot c.args.draw.value)) c.in-Some.seat (sym c.in-Some.is ∙ c.hinted.ensures t h) in
-    let f = free_at_hint c.self.inside.limits c.self.inside.words t h c.args.bucket c.args.slot c.args.draw.value c.requires.bucket S c.in-Some.seat q in
-    (seat_fits c.self.inside.limits c.self.inside.words t h c.args.bucket c.args.slot c.args.draw.value c.requires.bucket S c.in-Some.seat.head c.in-Some.seat.index f).1
+    let q = id_found (at_hint t (search_key c.args.bucket c.args.slot c.args.draw.value)) c.in-Some.block (sym c.in-Some.is ∙ c.hinted.ensures t h) in
+    let f = free_at_hint c.self.inside.limits c.self.inside.words t h c.args.bucket c.args.slot c.args.draw.value c.requires.bucket S c.in-Some.block q in
+    (block_fits c.self.inside.limits c.self.inside.words t h c.args.bucket c.args.slot c.args.draw.value c.requires.bucket S c.in-Some.block.head c.in-Some.block.index f).1
 
 pub invariant_of-self : goal.invariant_of-self
 invariant_of-self c =
@@ -51,9 +52,9 @@ invariant_of-self c =
     let t : LfhPart = c.requires.spans.0 in
     let h : StandsFor (record { limits = c.self.inside.limits; words = c.self.inside.words }) t = subst (λ k. StandsFor k t) (sym c.self.view_is) c.requires.spans.1.stands in
     let t_spans = c.requires.spans.1.spans in
-    let q = seat_found (at_hint t (key_of c.args.bucket c.args.slot c.args.draw.value)) c.in-Some.seat (sym c.in-Some.is ∙ c.hinted.ensures t h) in
-    let f = free_at_hint c.self.inside.limits c.self.inside.words t h c.args.bucket c.args.slot c.args.draw.value c.requires.bucket S c.in-Some.seat q in
-    (record t { places = lfh_block c.args.bucket c.args.size q.found ∷ t.places }, subst (λ (ws : List ℕ). StandsFor (record { limits = c.self.inside.limits; words = ws }) (record t { places = lfh_block c.args.bucket c.args.size q.found ∷ t.places })) (sym c.put.ensures.words) (puts_found c.self.inside.limits c.self.inside.words t h c.args.bucket c.args.slot c.args.draw.value c.requires.bucket S c.args.size c.requires.size.0 c.requires.size.1 c.in-Some.seat (at_hint t (key_of c.args.bucket c.args.slot c.args.draw.value)) q f))
+    let q = id_found (at_hint t (search_key c.args.bucket c.args.slot c.args.draw.value)) c.in-Some.block (sym c.in-Some.is ∙ c.hinted.ensures t h) in
+    let f = free_at_hint c.self.inside.limits c.self.inside.words t h c.args.bucket c.args.slot c.args.draw.value c.requires.bucket S c.in-Some.block q in
+    (record t { places = lfh_block c.args.bucket c.args.size q.found ∷ t.places }, subst (λ (ws : List ℕ). StandsFor (record { limits = c.self.inside.limits; words = ws }) (record t { places = lfh_block c.args.bucket c.args.size q.found ∷ t.places })) (sym c.put.ensures.words) (puts_found c.self.inside.limits c.self.inside.words t h c.args.bucket c.args.slot c.args.draw.value c.requires.bucket S c.args.size c.requires.size.0 c.requires.size.1 c.in-Some.block (at_hint t (search_key c.args.bucket c.args.slot c.args.draw.value)) q f))
 
 pub returns-in-Some-clause-takes : goal.returns-in-Some-clause-takes
 returns-in-Some-clause-takes c =
@@ -61,9 +62,9 @@ returns-in-Some-clause-takes c =
     let S : c.args.slot < 16 = (let a = c.requires.slot in let b = c.requires.spans.1.stands.limits.slots in omega arith) in
     let h : StandsFor (record { limits = c.self.inside.limits; words = c.self.inside.words }) t = subst (λ k. StandsFor k t) (sym c.self.view_is) r.stands in
     let t_spans = r.spans in
-    let q = seat_found (at_hint t (key_of c.args.bucket c.args.slot c.args.draw.value)) c.in-Some.seat (sym c.in-Some.is ∙ c.hinted.ensures t h) in
-    let f = free_at_hint c.self.inside.limits c.self.inside.words t h c.args.bucket c.args.slot c.args.draw.value c.requires.bucket S c.in-Some.seat q in
-    AtHint q.found (record { found = q.is; address = c.put.ensures.address ∙ ap (λ (n : ℕ). block_address c.args.bucket n c.in-Some.seat.index) q.head ∙ ap (block_address c.args.bucket q.found.span.first) q.index; back = refl; stands = record { stands = subst (λ (ws : List ℕ). StandsFor (record { limits = c.self.inside.limits; words = ws }) (record t { places = lfh_block c.args.bucket c.args.size q.found ∷ t.places })) (sym c.put.ensures.words) (puts_found c.self.inside.limits c.self.inside.words t h c.args.bucket c.args.slot c.args.draw.value c.requires.bucket S c.args.size c.requires.size.0 c.requires.size.1 c.in-Some.seat (at_hint t (key_of c.args.bucket c.args.slot c.args.draw.value)) q f); spans = t_spans } })
+    let q = id_found (at_hint t (search_key c.args.bucket c.args.slot c.args.draw.value)) c.in-Some.block (sym c.in-Some.is ∙ c.hinted.ensures t h) in
+    let f = free_at_hint c.self.inside.limits c.self.inside.words t h c.args.bucket c.args.slot c.args.draw.value c.requires.bucket S c.in-Some.block q in
+    AtHint q.found (record { found = q.is; address = c.put.ensures.address ∙ ap (λ (n : ℕ). block_address c.args.bucket n c.in-Some.block.index) q.head ∙ ap (block_address c.args.bucket q.found.span.first) q.index; back = refl; stands = record { stands = subst (λ (ws : List ℕ). StandsFor (record { limits = c.self.inside.limits; words = ws }) (record t { places = lfh_block c.args.bucket c.args.size q.found ∷ t.places })) (sym c.put.ensures.words) (puts_found c.self.inside.limits c.self.inside.words t h c.args.bucket c.args.slot c.args.draw.value c.requires.bucket S c.args.size c.requires.size.0 c.requires.size.1 c.in-Some.block (at_hint t (search_key c.args.bucket c.args.slot c.args.draw.value)) q f); spans = t_spans } })
 
 pub put-requires-in-Some-first_free-clause-head : goal.put-requires-in-Some-first_free-clause-head
 put-requires-in-Some-first_free-clause-head c =
@@ -71,9 +72,9 @@ put-requires-in-Some-first_free-clause-head c =
     let t : LfhPart = c.requires.spans.0 in
     let h : StandsFor (record { limits = c.self.inside.limits; words = c.self.inside.words }) t = subst (λ k. StandsFor k t) (sym c.self.view_is) c.requires.spans.1.stands in
     let t_spans = c.requires.spans.1.spans in
-    let q = seat_found (in_pass t (key_of c.args.bucket c.args.slot c.args.draw.value)) c.in-Some-first_free.seat (sym c.in-Some-first_free.is ∙ c.first_free.ensures t h) in
-    let f = free_in_pass c.self.inside.limits c.self.inside.words t h c.args.bucket c.args.slot c.args.draw.value c.requires.bucket S c.in-Some-first_free.seat q in
-    (seat_fits c.self.inside.limits c.self.inside.words t h c.args.bucket c.args.slot c.args.draw.value c.requires.bucket S c.in-Some-first_free.seat.head c.in-Some-first_free.seat.index f).0
+    let q = id_found (in_pass t (search_key c.args.bucket c.args.slot c.args.draw.value)) c.in-Some-first_free.block (sym c.in-Some-first_free.is ∙ c.first_free.ensures t h) in
+    let f = free_in_pass c.self.inside.limits c.self.inside.words t h c.args.bucket c.args.slot c.args.draw.value c.requires.bucket S c.in-Some-first_free.block q in
+    (block_fits c.self.inside.limits c.self.inside.words t h c.args.bucket c.args.slot c.args.draw.value c.requires.bucket S c.in-Some-first_free.block.head c.in-Some-first_free.block.index f).0
 
 pub put-requires-in-Some-first_free-clause-index : goal.put-requires-in-Some-first_free-clause-index
 put-requires-in-Some-first_free-clause-index c =
@@ -81,9 +82,9 @@ put-requires-in-Some-first_free-clause-index c =
     let t : LfhPart = c.requires.spans.0 in
     let h : StandsFor (record { limits = c.self.inside.limits; words = c.self.inside.words }) t = subst (λ k. StandsFor k t) (sym c.self.view_is) c.requires.spans.1.stands in
     let t_spans = c.requires.spans.1.spans in
-    let q = seat_found (in_pass t (key_of c.args.bucket c.args.slot c.args.draw.value)) c.in-Some-first_free.seat (sym c.in-Some-first_free.is ∙ c.first_free.ensures t h) in
-    let f = free_in_pass c.self.inside.limits c.self.inside.words t h c.args.bucket c.args.slot c.args.draw.value c.requires.bucket S c.in-Some-first_free.seat q in
-    (seat_fits c.self.inside.limits c.self.inside.words t h c.args.bucket c.args.slot c.args.draw.value c.requires.bucket S c.in-Some-first_free.seat.head c.in-Some-first_free.seat.index f).1
+    let q = id_found (in_pass t (search_key c.args.bucket c.args.slot c.args.draw.value)) c.in-Some-first_free.block (sym c.in-Some-first_free.is ∙ c.first_free.ensures t h) in
+    let f = free_in_pass c.self.inside.limits c.self.inside.words t h c.args.bucket c.args.slot c.args.draw.value c.requires.bucket S c.in-Some-first_free.block q in
+    (block_fits c.self.inside.limits c.self.inside.words t h c.args.bucket c.args.slot c.args.draw.value c.requires.bucket S c.in-Some-first_free.block.head c.in-Some-first_free.block.index f).1
 
 pub invariant_of-self-in-Some-first_free : goal.invariant_of-self-in-Some-first_free
 invariant_of-self-in-Some-first_free c =
@@ -91,12 +92,12 @@ invariant_of-self-in-Some-first_free c =
     let t : LfhPart = c.requires.spans.0 in
     let h : StandsFor (record { limits = c.self.inside.limits; words = c.self.inside.words }) t = subst (λ k. StandsFor k t) (sym c.self.view_is) c.requires.spans.1.stands in
     let t_spans = c.requires.spans.1.spans in
-    let q = seat_found (in_pass t (key_of c.args.bucket c.args.slot c.args.draw.value)) c.in-Some-first_free.seat (sym c.in-Some-first_free.is ∙ c.first_free.ensures t h) in
+    let q = id_found (in_pass t (search_key c.args.bucket c.args.slot c.args.draw.value)) c.in-Some-first_free.block (sym c.in-Some-first_free.is ∙ c.first_free.ensures t h) in
     let at_is : c.hint_at.result ≡ 118 + 16 * c.args.bucket + c.args.slot = omega (arith, c.hint_at.ensures) in
-    let u : LfhPart = with_hint t c.args.bucket c.args.slot c.in-Some-first_free.seat.head in
-    let k : StandsFor (record { limits = c.self.inside.limits; words = c.set.new.self }) u = subst (λ (ws : List ℕ). StandsFor (record { limits = c.self.inside.limits; words = ws }) u) (sym (c.set.ensures ∙ ap (slice_set c.self.inside.words c.hint_at.result) c.from.ensures)) (hint_put_stands c.self.inside.limits c.self.inside.words t h c.args.bucket c.args.slot c.args.draw.value c.requires.bucket S c.hint_at.result at_is c.in-Some-first_free.seat q) in
-    let g = free_after_hint c.self.inside.limits c.self.inside.words t h c.args.bucket c.args.slot c.args.draw.value c.requires.bucket S c.hint_at.result at_is c.in-Some-first_free.seat q in
-    (record u { places = lfh_block c.args.bucket c.args.size q.found ∷ t.places }, subst (λ (ws : List ℕ). StandsFor (record { limits = c.self.inside.limits; words = ws }) (record u { places = lfh_block c.args.bucket c.args.size q.found ∷ t.places })) (sym c.put-in-Some-first_free.ensures.words) (puts_found c.self.inside.limits c.set.new.self u k c.args.bucket c.args.slot c.args.draw.value c.requires.bucket S c.args.size c.requires.size.0 c.requires.size.1 c.in-Some-first_free.seat (in_pass t (key_of c.args.bucket c.args.slot c.args.draw.value)) q g))
+    let u : LfhPart = with_hint t c.args.bucket c.args.slot c.in-Some-first_free.block.head in
+    let k : StandsFor (record { limits = c.self.inside.limits; words = c.set.new.self }) u = subst (λ (ws : List ℕ). StandsFor (record { limits = c.self.inside.limits; words = ws }) u) (sym (c.set.ensures ∙ ap (slice_set c.self.inside.words c.hint_at.result) c.from.ensures)) (hint_put_stands c.self.inside.limits c.self.inside.words t h c.args.bucket c.args.slot c.args.draw.value c.requires.bucket S c.hint_at.result at_is c.in-Some-first_free.block q) in
+    let g = free_after_hint c.self.inside.limits c.self.inside.words t h c.args.bucket c.args.slot c.args.draw.value c.requires.bucket S c.hint_at.result at_is c.in-Some-first_free.block q in
+    (record u { places = lfh_block c.args.bucket c.args.size q.found ∷ t.places }, subst (λ (ws : List ℕ). StandsFor (record { limits = c.self.inside.limits; words = ws }) (record u { places = lfh_block c.args.bucket c.args.size q.found ∷ t.places })) (sym c.put-in-Some-first_free.ensures.words) (puts_found c.self.inside.limits c.set.new.self u k c.args.bucket c.args.slot c.args.draw.value c.requires.bucket S c.args.size c.requires.size.0 c.requires.size.1 c.in-Some-first_free.block (in_pass t (search_key c.args.bucket c.args.slot c.args.draw.value)) q g))
 
 pub returns-in-Some-first_free-clause-takes : goal.returns-in-Some-first_free-clause-takes
 returns-in-Some-first_free-clause-takes c =
@@ -104,12 +105,12 @@ returns-in-Some-first_free-clause-takes c =
     let S : c.args.slot < 16 = (let a = c.requires.slot in let b = c.requires.spans.1.stands.limits.slots in omega arith) in
     let h : StandsFor (record { limits = c.self.inside.limits; words = c.self.inside.words }) t = subst (λ k. StandsFor k t) (sym c.self.view_is) r.stands in
     let t_spans = r.spans in
-    let q = seat_found (in_pass t (key_of c.args.bucket c.args.slot c.args.draw.value)) c.in-Some-first_free.seat (sym c.in-Some-first_free.is ∙ c.first_free.ensures t h) in
+    let q = id_found (in_pass t (search_key c.args.bucket c.args.slot c.args.draw.value)) c.in-Some-first_free.block (sym c.in-Some-first_free.is ∙ c.first_free.ensures t h) in
     let at_is : c.hint_at.result ≡ 118 + 16 * c.args.bucket + c.args.slot = omega (arith, c.hint_at.ensures) in
-    let u : LfhPart = with_hint t c.args.bucket c.args.slot c.in-Some-first_free.seat.head in
-    let k : StandsFor (record { limits = c.self.inside.limits; words = c.set.new.self }) u = subst (λ (ws : List ℕ). StandsFor (record { limits = c.self.inside.limits; words = ws }) u) (sym (c.set.ensures ∙ ap (slice_set c.self.inside.words c.hint_at.result) c.from.ensures)) (hint_put_stands c.self.inside.limits c.self.inside.words t h c.args.bucket c.args.slot c.args.draw.value c.requires.bucket S c.hint_at.result at_is c.in-Some-first_free.seat q) in
-    let g = free_after_hint c.self.inside.limits c.self.inside.words t h c.args.bucket c.args.slot c.args.draw.value c.requires.bucket S c.hint_at.result at_is c.in-Some-first_free.seat q in
-    InPass q.found (record { none = none_found (at_hint t (key_of c.args.bucket c.args.slot c.args.draw.value)) (sym c.in_default.is ∙ c.hinted.ensures t h); found = q.is; address = c.put-in-Some-first_free.ensures.address ∙ ap (λ (n : ℕ). block_address c.args.bucket n c.in-Some-first_free.seat.index) q.head ∙ ap (block_address c.args.bucket q.found.span.first) q.index; back = refl; stands = record { stands = subst (λ (n : ℕ). StandsFor (record { limits = c.self.inside.limits; words = c.put-in-Some-first_free.new.words }) (record t { places = lfh_block c.args.bucket c.args.size q.found ∷ t.places; hints = hint_put t.hints c.args.bucket c.args.slot n })) q.head (subst (λ (ws : List ℕ). StandsFor (record { limits = c.self.inside.limits; words = ws }) (record u { places = lfh_block c.args.bucket c.args.size q.found ∷ t.places })) (sym c.put-in-Some-first_free.ensures.words) (puts_found c.self.inside.limits c.set.new.self u k c.args.bucket c.args.slot c.args.draw.value c.requires.bucket S c.args.size c.requires.size.0 c.requires.size.1 c.in-Some-first_free.seat (in_pass t (key_of c.args.bucket c.args.slot c.args.draw.value)) q g)); spans = t_spans } })
+    let u : LfhPart = with_hint t c.args.bucket c.args.slot c.in-Some-first_free.block.head in
+    let k : StandsFor (record { limits = c.self.inside.limits; words = c.set.new.self }) u = subst (λ (ws : List ℕ). StandsFor (record { limits = c.self.inside.limits; words = ws }) u) (sym (c.set.ensures ∙ ap (slice_set c.self.inside.words c.hint_at.result) c.from.ensures)) (hint_put_stands c.self.inside.limits c.self.inside.words t h c.args.bucket c.args.slot c.args.draw.value c.requires.bucket S c.hint_at.result at_is c.in-Some-first_free.block q) in
+    let g = free_after_hint c.self.inside.limits c.self.inside.words t h c.args.bucket c.args.slot c.args.draw.value c.requires.bucket S c.hint_at.result at_is c.in-Some-first_free.block q in
+    InPass q.found (record { none = none_found (at_hint t (search_key c.args.bucket c.args.slot c.args.draw.value)) (sym c.in_default.is ∙ c.hinted.ensures t h); found = q.is; address = c.put-in-Some-first_free.ensures.address ∙ ap (λ (n : ℕ). block_address c.args.bucket n c.in-Some-first_free.block.index) q.head ∙ ap (block_address c.args.bucket q.found.span.first) q.index; back = refl; stands = record { stands = subst (λ (n : ℕ). StandsFor (record { limits = c.self.inside.limits; words = c.put-in-Some-first_free.new.words }) (record t { places = lfh_block c.args.bucket c.args.size q.found ∷ t.places; hints = hint_put t.hints c.args.bucket c.args.slot n })) q.head (subst (λ (ws : List ℕ). StandsFor (record { limits = c.self.inside.limits; words = ws }) (record u { places = lfh_block c.args.bucket c.args.size q.found ∷ t.places })) (sym c.put-in-Some-first_free.ensures.words) (puts_found c.self.inside.limits c.set.new.self u k c.args.bucket c.args.slot c.args.draw.value c.requires.bucket S c.args.size c.requires.size.0 c.requires.size.1 c.in-Some-first_free.block (in_pass t (search_key c.args.bucket c.args.slot c.args.draw.value)) q g)); spans = t_spans } })
 
 pub tag_pages-requires-clause-pages : goal.tag_pages-requires-clause-pages
 tag_pages-requires-clause-pages c =
@@ -147,7 +148,7 @@ invariant_of-self-2 c =
     let k : StandsFor (record { limits = c.self.inside.limits; words = c.set-2.new.self }) u = subst (λ (ws : List ℕ). StandsFor (record { limits = c.self.inside.limits; words = ws }) u) (sym (c.set-2.ensures ∙ ap (slice_set c.tag_pages.new.words c.hint_at-2.result) c.from-3.ensures)) (new_stands c.self.inside.limits c.self.inside.words t h c.args.bucket c.args.slot c.args.draw.value c.requires.bucket S c.hint_at-2.result at_is c.tag_pages.new.words c.in_ok-head.head m.sub order tagged) in
     let below = subst (λ (n : ℕ). n < block_count c.args.bucket) (sym c.own_block-index.ensures) (own_fits c.args.bucket 0 c.args.draw.value c.requires.bucket).0 in
     let g = free_in_new c.self.inside.limits c.self.inside.words t h c.args.bucket c.args.slot c.args.draw.value c.requires.bucket S c.hint_at-2.result at_is c.tag_pages.new.words c.in_ok-head.head m.sub order tagged c.own_block-index.result below in
-    (with_block u (live_block c.args.bucket c.in_ok-head.head c.own_block-index.result c.args.size), subst (λ (ws : List ℕ). StandsFor (record { limits = c.self.inside.limits; words = ws }) (with_block u (live_block c.args.bucket c.in_ok-head.head c.own_block-index.result c.args.size))) (sym c.put-2.ensures.words) (puts c.self.inside.limits c.set-2.new.self u k c.args.bucket c.args.slot c.args.draw.value c.requires.bucket S c.args.size c.requires.size.0 c.requires.size.1 c.in_ok-head.head c.own_block-index.result g))
+    (with_block u (block_of c.args.bucket c.in_ok-head.head c.own_block-index.result c.args.size), subst (λ (ws : List ℕ). StandsFor (record { limits = c.self.inside.limits; words = ws }) (with_block u (block_of c.args.bucket c.in_ok-head.head c.own_block-index.result c.args.size))) (sym c.put-2.ensures.words) (puts c.self.inside.limits c.set-2.new.self u k c.args.bucket c.args.slot c.args.draw.value c.requires.bucket S c.args.size c.requires.size.0 c.requires.size.1 c.in_ok-head.head c.own_block-index.result g))
 
 pub returns-clause-takes : goal.returns-clause-takes
 returns-clause-takes c =
@@ -168,16 +169,17 @@ returns-clause-takes c =
     let below = subst (λ (n : ℕ). n < block_count c.args.bucket) (sym c.own_block-index.ensures) (own_fits c.args.bucket 0 c.args.draw.value c.requires.bucket).0 in
     let g = free_in_new c.self.inside.limits c.self.inside.words t h c.args.bucket c.args.slot c.args.draw.value c.requires.bucket S c.hint_at-2.result at_is c.tag_pages.new.words c.in_ok-head.head m.sub order tagged c.own_block-index.result below in
     NewSpan c.in_ok-head.head (record {
-      at_hint_none = none_found (at_hint t (key_of c.args.bucket c.args.slot c.args.draw.value)) (sym c.in_default.is ∙ c.hinted.ensures t h);
-      in_pass_none = none_found (in_pass t (key_of c.args.bucket c.args.slot c.args.draw.value)) (sym c.in_default-first_free.is ∙ c.first_free.ensures t h);
+      at_hint_none = none_found (at_hint t (search_key c.args.bucket c.args.slot c.args.draw.value)) (sym c.in_default.is ∙ c.hinted.ensures t h);
+      in_pass_none = none_found (in_pass t (search_key c.args.bucket c.args.slot c.args.draw.value)) (sym c.in_default-first_free.is ∙ c.first_free.ensures t h);
       place = sym (c.in_ok-head.ensures.place ∙ ap (back_place (area_of c.args.back.now) c.args.back.now.region.segments) c.pages-pages.ensures);
       address = c.put-2.ensures.address ∙ ap (block_address c.args.bucket c.in_ok-head.head) c.own_block-index.ensures;
       area = m.area;
+      runs = m.runs;
       segments = c.in_ok-head.ensures.segments;
-      part = with_block u (live_block c.args.bucket c.in_ok-head.head c.own_block-index.result c.args.size);
+      part = with_block u (block_of c.args.bucket c.in_ok-head.head c.own_block-index.result c.args.size);
       spans = ap (insert_span (lfh_span c.in_ok-head.head c.args.bucket c.args.slot)) t_spans ∙ sym m.spans;
-      places = ap (λ (n : ℕ). live_block c.args.bucket c.in_ok-head.head n c.args.size ∷ t.places) c.own_block-index.ensures;
+      places = ap (λ (n : ℕ). block_of c.args.bucket c.in_ok-head.head n c.args.size ∷ t.places) c.own_block-index.ensures;
       hints = refl;
       active = refl;
-      stands = record { stands = subst (λ (ws : List ℕ). StandsFor (record { limits = c.self.inside.limits; words = ws }) (with_block u (live_block c.args.bucket c.in_ok-head.head c.own_block-index.result c.args.size))) (sym c.put-2.ensures.words) (puts c.self.inside.limits c.set-2.new.self u k c.args.bucket c.args.slot c.args.draw.value c.requires.bucket S c.args.size c.requires.size.0 c.requires.size.1 c.in_ok-head.head c.own_block-index.result g); spans = ap (insert_span (lfh_span c.in_ok-head.head c.args.bucket c.args.slot)) t_spans ∙ sym m.spans };
+      stands = record { stands = subst (λ (ws : List ℕ). StandsFor (record { limits = c.self.inside.limits; words = ws }) (with_block u (block_of c.args.bucket c.in_ok-head.head c.own_block-index.result c.args.size))) (sym c.put-2.ensures.words) (puts c.self.inside.limits c.set-2.new.self u k c.args.bucket c.args.slot c.args.draw.value c.requires.bucket S c.args.size c.requires.size.0 c.requires.size.1 c.in_ok-head.head c.own_block-index.result g); spans = ap (insert_span (lfh_span c.in_ok-head.head c.args.bucket c.args.slot)) t_spans ∙ sym m.spans };
     })

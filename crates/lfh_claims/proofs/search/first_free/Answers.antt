@@ -1,7 +1,7 @@
 use Rattle.std.proofs.Common.{◌+◌, ◌*◌, sym, subst, ◌∙◌, length}
 use Rattle.std.specs.Prelude.{slice_range}
 use Rattle.lane_scan.specs.Matches.{IsFirstMatch, NoneMatches}
-use Rattle.lfh_claims.specs.Scan.{key_of, HasCome}
+use Rattle.lfh_claims.specs.Scan.{search_key, HasCome}
 use Rattle.lfh_claims.proofs.Passes.{begins_pass, come_on, comes_to, comes_to_none}
 use Rattle.lfh_claims.proofs.search.first_free.Goals as goal
 
@@ -23,7 +23,7 @@ loop-page-preserved c = λ t h.
     let s = come_on c.args.limits.now c.args.words.now t h c.args.bucket c.args.slot c.requires.bucket c.requires.slot c.args.draw.value c.loop-page.from c.in-Some.page (c.loop-page.invariant t h)
     (subst (λ n. IsFirstMatch (slice_range c.args.words.now 2182 (2182 + 256 * c.args.limits.now.segments)) 4294967295 n c.loop-page.from c.in-Some.page) c.tag_start-tag.ensures f)
     (sym c.free_block.ensures ∙ c.in_default-free_block.is) in
-    subst (λ n. HasCome c.args.limits.now c.args.words.now (key_of c.args.bucket c.args.slot c.args.draw.value) (c.in-Some.page + n) t) (sym c.pages-step.ensures) s
+    subst (λ n. HasCome c.args.limits.now c.args.words.now (search_key c.args.bucket c.args.slot c.args.draw.value) (c.in-Some.page + n) t) (sym c.pages-step.ensures) s
 
 pub returns : goal.returns
 returns c = λ t h.

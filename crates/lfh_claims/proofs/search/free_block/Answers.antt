@@ -2,7 +2,8 @@ use Rattle.std.proofs.Common.{◌≡◌, ◌+◌, ◌*◌, ◌/◌, ◌%◌, ◌
 use Rattle.std.specs.Prelude.{option_map, slice_index}
 use Rattle.heap_model.specs.Buckets.{words_in_use}
 use Rattle.heap_soundness.proofs.Picks.{pick_below}
-use Rattle.lfh_claims.specs.Scan.{bits_in, key_of}
+use Rattle.lfh_claims.specs.Scan.{search_key}
+use Rattle.table_words.specs.Told.{bits_in}
 use Rattle.lfh_claims.proofs.Scans.{in_use_is, word_below, picked_is, scan_more, scan_found}
 use Rattle.lfh_claims.proofs.search.free_block.Goals as goal
 
@@ -29,7 +30,7 @@ returns-in-Some c =
     let u : c.div_ceil-in_use.result ≡ words_in_use c.args.bucket = in_use_is c.args.bucket c.div_ceil-in_use.result c.count.result c.count.ensures c.div_ceil-in_use.ensures in
     let p = picked_is (bits_in c.args.limits.now c.args.words.now c.args.head) c.args.bucket c.args.draw.value c.div_ceil-in_use.result c.loop-behind.behind c.at-bits.result c.valid_bits.result c.pick.result u
     (c.at-bits.ensures ∙ ap (slice_index c.args.words.now) c.bitmap_at.ensures) c.valid_bits.ensures c.pick.ensures in
-    scan_found (bits_in c.args.limits.now c.args.words.now c.args.head) (key_of c.args.bucket 0 c.args.draw.value) (words_in_use c.args.bucket) c.loop-behind.behind (64 * ((c.args.draw.value / 64 % c.div_ceil-in_use.result + c.loop-behind.behind) % c.div_ceil-in_use.result) + c.from.result) (subst (λ (n : ℕ). c.loop-behind.behind < n) u c.loop-behind-test.true)
+    scan_found (bits_in c.args.limits.now c.args.words.now c.args.head) (search_key c.args.bucket 0 c.args.draw.value) (words_in_use c.args.bucket) c.loop-behind.behind (64 * ((c.args.draw.value / 64 % c.div_ceil-in_use.result + c.loop-behind.behind) % c.div_ceil-in_use.result) + c.from.result) (subst (λ (n : ℕ). c.loop-behind.behind < n) u c.loop-behind-test.true)
     (p ∙ ap (option_map (λ i. 64 * ((c.args.draw.value / 64 % c.div_ceil-in_use.result + c.loop-behind.behind) % c.div_ceil-in_use.result) + i)) (c.in-Some.is ∙ ap Some (sym c.from.ensures))) c.loop-behind.invariant
 
 pub loop-behind-preserved : goal.loop-behind-preserved
@@ -37,4 +38,4 @@ loop-behind-preserved c =
     let u : c.div_ceil-in_use.result ≡ words_in_use c.args.bucket = in_use_is c.args.bucket c.div_ceil-in_use.result c.count.result c.count.ensures c.div_ceil-in_use.ensures in
     let p = picked_is (bits_in c.args.limits.now c.args.words.now c.args.head) c.args.bucket c.args.draw.value c.div_ceil-in_use.result c.loop-behind.behind c.at-bits.result c.valid_bits.result c.pick.result u
     (c.at-bits.ensures ∙ ap (slice_index c.args.words.now) c.bitmap_at.ensures) c.valid_bits.ensures c.pick.ensures in
-    scan_more (bits_in c.args.limits.now c.args.words.now c.args.head) (key_of c.args.bucket 0 c.args.draw.value) (words_in_use c.args.bucket) c.loop-behind.behind (subst (λ (n : ℕ). c.loop-behind.behind < n) u c.loop-behind-test.true) (p ∙ ap (option_map (λ i. 64 * ((c.args.draw.value / 64 % c.div_ceil-in_use.result + c.loop-behind.behind) % c.div_ceil-in_use.result) + i)) c.in_default.is) c.loop-behind.invariant
+    scan_more (bits_in c.args.limits.now c.args.words.now c.args.head) (search_key c.args.bucket 0 c.args.draw.value) (words_in_use c.args.bucket) c.loop-behind.behind (subst (λ (n : ℕ). c.loop-behind.behind < n) u c.loop-behind-test.true) (p ∙ ap (option_map (λ i. 64 * ((c.args.draw.value / 64 % c.div_ceil-in_use.result + c.loop-behind.behind) % c.div_ceil-in_use.result) + i)) c.in_default.is) c.loop-behind.invariant
