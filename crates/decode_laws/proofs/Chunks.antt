@@ -24,7 +24,7 @@ use Rattle.heap_soundness.proofs.Addresses.{members_apart}
 abbrev pub spans_of : List Span → List Span
 spans_of xs = filter (is_of_kind kinds.Vs) xs
 
-abbrev gaps_there : List Span → List Place → List Run
+abbrev pub gaps_there : List Span → List Place → List Run
 gaps_there xs ps = gaps_of (spans_of xs) ps
 
 -- what is known of the spans, and of the places of the variable-size layer in them
@@ -36,7 +36,7 @@ pub record AreKnown (xs : List Span) (ps : List Place) : Type 0 where
   pub sizes : AllByRecursion (λ p. HasSoundSize p p.status) ps
   pub live : AllByRecursion (λ p. is_live p.status ≡ true) ps
 
-find_none : {A : Type 0} (t : A → Bool) (xs : List A) → ((x : A) → IsOneOf x xs → t x ≡ true → ⊥) → find t xs ≡ None
+pub find_none : {A : Type 0} (t : A → Bool) (xs : List A) → ((x : A) → IsOneOf x xs → t x ≡ true → ⊥) → find t xs ≡ None
 find_none t [] f = refl
 find_none t (x ∷ xs) f = elim (cases_Bool (t x)) [
   | inl e ↦ absurd (f x (inl refl) e)
@@ -109,7 +109,7 @@ module _ (xs : List Span) (ps : List Place) (known : AreKnown xs ps) where
   short : (x : Span) → IsOneOf x xs → x.pages ≤ 254
   short x i = all_at (λ (y : Span). y.pages ≤ 254) x xs known.short i
 
-  gap_is : (r : Run) → IsOneOf r (gaps_there xs ps) → IsGap xs ps r
+  pub gap_is : (r : Run) → IsOneOf r (gaps_there xs ps) → IsGap xs ps r
   gap_is r i = all_at (IsGap xs ps) r (gaps_there xs ps) (gaps_are xs ps) i
 
   place_short : (p : Place) → IsOneOf p ps → p.granules < 65536
@@ -142,6 +142,13 @@ module _ (xs : List Span) (ps : List Place) (known : AreKnown xs ps) where
   pub live_at : (p : Place) → IsOneOf p ps → is_live p.status ≡ true
   live_at p i = all_at (λ (q : Place). is_live q.status ≡ true) p ps known.live i
 
+  -- the heads of places and gaps have their widths
+  pub place_wide : (g : ℕ) (p : Place) → IsOneOf p ps → IsHead (place_head (units_to (spans_of xs) ps g) p)
+  place_wide g p i = record { units = place_short p i; prev = prev_short g; unused = let few = few_unused p (size_at p i) (live_at p i) (layer_at p i) in omega arith }
+
+  pub gap_wide : (g : ℕ) (r : Run) → IsOneOf r (gaps_there xs ps) → IsHead (gap_head (units_to (spans_of xs) ps g) r)
+  gap_wide g r i = record { units = gap_short r i; prev = prev_short g; unused = omega arith }
+
   module _ (x : Span) (there : IsOneOf x xs) (kind : x.kind ≡ kinds.Vs) where
     abbrev low : ℕ
     low = 256 * x.first + 3
@@ -173,7 +180,7 @@ module _ (xs : List Span) (ps : List Place) (known : AreKnown xs ps) where
     place_chunk g p l m e = record {
       head = head;
       head_is = ap (λ (o : Option Place). option_or (option_map (place_head prev) o) (option_map (gap_head prev) (find (gap_from g) (gaps_there xs ps)))) e;
-      is = record { units = place_short p i; prev = prev_short g; unused = let few = few_unused p (size_at p i) (live_at p i) (layer_at p i) in omega arith };
+      is = place_wide g p i;
       some = two;
       fits = fits;
       next = record {
@@ -219,7 +226,7 @@ module _ (xs : List Span) (ps : List Place) (known : AreKnown xs ps) where
       head = gap_head prev r;
       head_is = ap (λ (o : Option Place). option_or (option_map (place_head prev) o) (option_map (gap_head prev) (find (gap_from g) (gaps_there xs ps)))) none
           ∙ ap (λ (o : Option Run). option_map (gap_head prev) o) e;
-      is = record { units = gap_short r i; prev = prev_short g; unused = omega arith };
+      is = gap_wide g r i;
       some = all_at (λ (q : Run). 2 ≤ q.count) r (gaps_there xs ps) (gaps_of_two xs ps known.in_order known.sound) i;
       fits = let below = run.below in let some = some_pages in omega (arith, start);
       next = record {

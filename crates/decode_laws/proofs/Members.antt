@@ -1,5 +1,5 @@
 -- On the elements of lists that are put together, mapped and sorted.
-use Rattle.std.proofs.Common.{◌≡◌, Bool, true, List, [], ◌∷◌, ◌++◌, map, Option, Some, None, refl, sym, ap, ◌∙◌, subst, ltb, inl, inr, ◌⊎◌}
+use Rattle.std.proofs.Common.{◌≡◌, Bool, List, [], ◌∷◌, ◌++◌, map, Option, Some, None, refl, sym, ap, ◌∙◌, subst, ltb, inl, inr, ◌⊎◌}
 use Rattle.std.specs.Prelude.{filter, filter_map, flat_map}
 use Rattle.std.specs.List.{AllByRecursion, cons_option}
 use Rattle.std.proofs.lemmas.Bool.{cases_Bool}
@@ -72,8 +72,3 @@ in_sorted p (q ∷ qs) (inr i) = in_inserted q p (by_address qs) (in_sorted p qs
 pub all_filtered : {A : Type 0} (P : A → Type 0) (t : A → Bool) (xs : List A) → AllByRecursion P xs → AllByRecursion P (filter t xs)
 all_filtered P t [] a = tt
 all_filtered P t (x ∷ xs) a = elim (cases_Bool (t x)) [ inl e ↦ rw e (a.0, all_filtered P t xs a.1) | inr e ↦ rw e (all_filtered P t xs a.1) ]
-
--- all pass
-pub filtered_whole : {A : Type 0} (t : A → Bool) (xs : List A) → ((x : A) → IsOneOf x xs → t x ≡ true) → filter t xs ≡ xs
-filtered_whole t [] f = refl
-filtered_whole {A = A} t (x ∷ xs) f = let e = f x (inl refl) in rw e (ap (λ (ys : List A). x ∷ ys) (filtered_whole t xs (λ y i. f y (inr i))))

@@ -26,7 +26,7 @@ picked_order t (b ∷ bs) a = elim (cases_Bool (t b)) [
 ]
 
 -- blocks of some addresses in front of blocks of higher ones
-joined_order : (high : ℕ) (bs ds : List Block) → ByAddress bs → ByAddress ds → AllByRecursion (λ b. b.addr < high) bs → AllByRecursion (λ d. high ≤ d.addr) ds → ByAddress (bs ++ ds)
+pub joined_order : (high : ℕ) (bs ds : List Block) → ByAddress bs → ByAddress ds → AllByRecursion (λ b. b.addr < high) bs → AllByRecursion (λ d. high ≤ d.addr) ds → ByAddress (bs ++ ds)
 joined_order high [] ds a c l h = c
 joined_order high (b ∷ bs) ds a c l h =
     let low = l.0 in

@@ -1,5 +1,5 @@
--- The blocks that an image tells of are the live ones of the back end and of the variable-size layer.
-use Rattle.std.proofs.Common.{◌≡◌, ℕ, ◌+◌, ◌-◌, ◌*◌, ◌/◌, ◌%◌, ◌<◌, ◌≤◌, Bool, true, false, ◌||◌, List, [], ◌∷◌, ◌++◌, cond, leb, ltb, Option, Some, None, refl, sym, ap, ◌∙◌, subst, arith, inl, inr}
+-- The blocks that an image tells of are the live ones of the back end, of the variable-size layer and of the low-fragmentation front end.
+use Rattle.std.proofs.Common.{◌≡◌, ℕ, ◌+◌, ◌-◌, ◌*◌, ◌/◌, ◌%◌, ◌<◌, ◌≤◌, Bool, true, false, ◌||◌, List, [], ◌∷◌, ◌++◌, leb, ltb, Option, Some, None, refl, sym, ap, ◌∙◌, subst, arith, inl, inr}
 use Rattle.std.specs.Prelude.{filter, option_map, option_and_then, unwrap_or, length}
 use Rattle.std.specs.List.{AllByRecursion, find, list_all}
 use Rattle.std.specs.Option.{option_map_or}
@@ -11,7 +11,8 @@ use Rattle.heap_model.specs.declared.Layer.{Layer}
 use Rattle.heap_model.specs.declared.Layer.TheVariants as layers
 use Rattle.heap_model.specs.declared.Run.{Run}
 use Rattle.heap_model.specs.State as state
-use Rattle.heap_model.specs.State.{State, Setting, Span, Place, Status, Live, InHand, Area, address, room, live_size, is_live, has_address, is_layer, all_places, by_address, live, place_at}
+use Rattle.heap_model.specs.Buckets.{block_size}
+use Rattle.heap_model.specs.State.{State, Setting, Span, Place, Status, Live, InHand, Area, address, room, live_size, is_live, has_address, is_layer, places_of, all_places, by_address, live}
 use Rattle.heap_model.specs.Ranges.{is_of_kind, vs_spans}
 use Rattle.heap_model.specs.Legal.{has_place, lies_in}
 use Rattle.page_ranges.specs.Words.{runs_of}
@@ -21,21 +22,23 @@ use Rattle.vs_headers.specs.declared.Head.{Head}
 use Rattle.vs_headers.specs.Headers.{IsHead, encoded, decoded}
 use Rattle.vs_headers.proofs.HeaderLemmas.{decodes}
 use Rattle.vs_split.specs.Shown.{head_shown}
-use Rattle.layout_decode.specs.Decode.{head_told, blocks_of, decode}
+use Rattle.layout_decode.specs.Decode.{head_told, blocks_of, decode, IsRunOfChunks, IsRunOfBlocks, BlocksFit, IsReadable}
 use Rattle.layout_decode.specs.Shows.{Shows, run_of_span, unused_in}
 use Rattle.layout_decode.specs.declared.Image.{Image}
-use Rattle.heap_soundness.specs.Sound.{IsOneOf, IsSound, IsSoundSpan, IsCommittedSpan, IsInBack, IsInVs, HasSoundSize, HasSoundBlocks, HasRoom}
-use Rattle.heap_soundness.specs.Invariant.{IsVsSound}
-use Rattle.heap_soundness.specs.Legal.{HaveOneAddress}
+use Rattle.heap_soundness.specs.Sound.{IsOneOf, IsSoundSpan, IsCommittedSpan, IsInBack, IsInVs, HasSoundSize, HasRoom}
 use Rattle.heap_soundness.proofs.Lists.{all_at, all_from, found_in, found_passes, any_in}
 use Rattle.heap_soundness.proofs.GapRuns.{filtered_cases, in_filtered}
 use Rattle.heap_soundness.proofs.Enums.{kind_is, layer_is}
 use Rattle.heap_soundness.proofs.Spans.{above, same_first}
 use Rattle.decode_laws.specs.Told.{is_told, told_blocks, AreLive, OnlyToldLive, IsBackWhole}
-use Rattle.decode_laws.proofs.Members.{in_parts, in_left, in_right, in_mapped, from_mapped, in_flat, from_flat, in_chosen, in_sorted, filtered_whole}
+use Rattle.decode_laws.proofs.Members.{in_parts, in_mapped, from_mapped, in_flat, from_flat, in_chosen, in_sorted}
+use Rattle.decode_laws.proofs.Known.{IsKnownState, address_by, room_by, of_layer, layer_at, in_layer, one_place}
 use Rattle.decode_laws.proofs.Rising.{ByAddress, LiesIn, picked_order, flat_order, same_blocks}
 use Rattle.decode_laws.proofs.Chunks.{AreKnown}
 use Rattle.decode_laws.proofs.Walk.{vs_block, IsBlockIn, span_found, span_order, span_has}
+use Rattle.decode_laws.proofs.Rows.{wide, span_row}
+use Rattle.decode_laws.proofs.Seats.{lfh_block, home, of_bucket, subsegment_live, subsegment_order, subsegment_has}
+use Rattle.search_laws.proofs.Filtered.{all_kept}
 
 abbrev back_block : ℕ → ℕ → Block
 back_block addr size = record { addr = addr; size = size; layer = layers.Back }
@@ -84,23 +87,9 @@ block_in ps x n h = with_found (find (has_address (4096 * x.first)) ps) refl h
     with_found None f h = absurd (let k : 4096 * x.pages - 0 < 65536 = h in omega (arith, k, n))
     with_found (Some p) f h = with_status p p.status refl f h
 
-address_is : (p : Place) → p.layer ≡ layers.Back → address p ≡ p.start
-address_is p e = ap (λ (l : Layer). cond (is_layer l layers.Vs) (p.start + 16) p.start) e
-
-room_is : (p : Place) → p.layer ≡ layers.Back → room p ≡ 16 * p.granules
-room_is p e = ap (λ (l : Layer). cond (is_layer l layers.Vs) (16 * p.granules - 16) (16 * p.granules)) e
-
-other_layer : (p : Place) (l : Layer) → p.layer ≡ l → p.layer ≡ layers.Back → is_layer l layers.Back ≡ true
-other_layer p l e f = ap (λ (k : Layer). is_layer k layers.Back) (sym e ∙ f)
-
-vs_address : (p : Place) → p.layer ≡ layers.Vs → address p ≡ p.start + 16
-vs_address p e = ap (λ (l : Layer). cond (is_layer l layers.Vs) (p.start + 16) p.start) e
-
-told_of_back : (b : Block) → b.layer ≡ layers.Back → is_told b ≡ true
-told_of_back b e = ap (λ (l : Layer). is_layer l layers.Back || is_layer l layers.Vs) e
-
-told_of_vs : (b : Block) → b.layer ≡ layers.Vs → is_told b ≡ true
-told_of_vs b e = ap (λ (l : Layer). is_layer l layers.Back || is_layer l layers.Vs) e
+-- whether a block is told hangs on its layer alone
+told_of : (b : Block) (l : Layer) → b.layer ≡ l → is_told b ≡ is_told (record b { layer = l })
+told_of b l e = ap (λ (k : Layer). is_told (record b { layer = k })) e
 
 block_fields : (b : Block) (l : Layer) (a n : ℕ) → a ≡ b.addr → n ≡ b.size → l ≡ b.layer → record { addr = a; size = n; layer = l } ≡ b
 block_fields b l a n e f g =
@@ -110,17 +99,6 @@ block_fields b l a n e f g =
 
 not_live : (ps : List Place) (p : Place) (n : ℕ) → AllByRecursion (λ q. is_live q.status ≡ false) ps → IsOneOf p ps → p.status ≡ Live n → ⊥
 not_live ps p n a i e = false≢true (sym (all_at (λ (q : Place). is_live q.status ≡ false) p ps a i) ∙ ap is_live e)
-
--- a place of another layer is not one of the variable-size layer
-vs_only : (p : Place) (l : Layer) → p.layer ≡ l → p.layer ≡ layers.Vs → is_layer l layers.Vs ≡ false → ⊥
-vs_only p l e f g = false≢true (sym g ∙ ap (λ (k : Layer). is_layer k layers.Vs) (sym e ∙ f))
-
--- what is known of a state of a legal history
-pub record IsKnownState (s : Setting) (st : State) : Type 0 where
-  pub sound : IsSound s st
-  pub vs : IsVsSound st.back.area.spans st.vs.places
-  pub one : HaveOneAddress st
-  pub blocks : HasSoundBlocks st
 
 module _ (s : Setting) (st : State) (image : Image) (known : IsKnownState s st) (shown : Shows image s st) where
   run_there : (x : Span) → IsOneOf x st.back.area.spans → IsOneOf (run_of_span st.back.places x) (runs_of image.descs)
@@ -136,12 +114,6 @@ module _ (s : Setting) (st : State) (image : Image) (known : IsKnownState s st) 
       let pages : IsSoundSpan s st.vs.active x kinds.Back = subst (IsSoundSpan s st.vs.active x) k kind in
       block_in st.back.places x pages.0 (subst (λ (j : Kind). unused_in st.back.places x j < 65536) k fits)
 
-  of_back : (p : Place) → IsOneOf p st.back.places → IsOneOf p (all_places st)
-  of_back p i = in_left p (st.lfh ++ st.vs.places ++ st.back.places) st.large (in_right p (st.lfh ++ st.vs.places) st.back.places i)
-
-  layer_at : (p : Place) → IsOneOf p st.back.places → p.layer ≡ layers.Back
-  layer_at p i = all_at (λ (q : Place). q.layer ≡ layers.Back) p st.back.places known.sound.homes.back i
-
   -- What is known of the place of a span.
   record IsPlaceOf (x : Span) (p : Place) : Type 0 where
     there : IsOneOf p st.back.places
@@ -153,9 +125,9 @@ module _ (s : Setting) (st : State) (image : Image) (known : IsKnownState s st) 
   place_of : (x : Span) → IsOneOf x st.back.area.spans → (w : HasBlock st.back.places x) → IsPlaceOf x w.place
   place_of x i w =
       let there = found_in (has_address (4096 * x.first)) st.back.places w.place w.found in
-      let layer = layer_at w.place there in
+      let layer = layer_at s st known layers.Back w.place there in
       let at = eqb-true (address w.place) (4096 * x.first) (found_passes (has_address (4096 * x.first)) st.back.places w.place w.found) in
-      let start : w.place.start ≡ 4096 * x.first = sym (address_is w.place layer) ∙ at in
+      let start : w.place.start ≡ 4096 * x.first = sym (address_by w.place layers.Back layer) ∙ at in
       let b : IsInBack st.back.area.spans w.place.start w.place.granules = all_at (λ (p : Place). IsInBack st.back.area.spans p.start p.granules) w.place st.back.places known.sound.places.back there in
       let same : b.span ≡ x = same_first 0 st.back.area.spans b.span x known.sound.spans.in_order b.there i (let e = b.begins in omega (arith, e, start)) in
       record { there = there; layer = layer; at = at; start = start; whole = b.whole ∙ ap (λ (y : Span). 256 * y.pages) same }
@@ -165,7 +137,7 @@ module _ (s : Setting) (st : State) (image : Image) (known : IsKnownState s st) 
       let p = place_of x i w in
       let h = all_at (λ (q : Place). HasSoundSize q q.status) w.place st.back.places known.sound.sizes.back p.there in
       let fits : w.size ≤ room w.place = (subst (HasSoundSize w.place) w.live h).0 in
-      let room = room_is w.place p.layer in
+      let room = room_by w.place layers.Back p.layer in
       let whole = p.whole in
       omega (arith, fits, room, whole)
 
@@ -196,40 +168,64 @@ module _ (s : Setting) (st : State) (image : Image) (known : IsKnownState s st) 
       let taken = in_filtered (λ (q : Run). is_of_span q.mark.kind) r (runs_of image.descs) k i in
       from_mapped (run_of_span st.back.places) st.back.area.spans r (subst (λ (rs : List Run). IsOneOf r rs) shown.spans taken)
 
-  -- a place of the layer is one of the back end's
-  in_back : (p : Place) → IsOneOf p (all_places st) → p.layer ≡ layers.Back → IsOneOf p st.back.places
-  in_back p i e = elim (in_parts p (st.lfh ++ st.vs.places ++ st.back.places) st.large i) [
-    | inr j ↦ absurd (false≢true (other_layer p layers.Large (all_at (λ (q : Place). q.layer ≡ layers.Large) p st.large known.sound.homes.large j) e))
-    | inl j ↦ elim (in_parts p (st.lfh ++ st.vs.places) st.back.places j) [
-      | inr k ↦ k
-      | inl k ↦ elim (in_parts p st.lfh st.vs.places k) [
-        | inl h ↦ absurd (false≢true (other_layer p layers.Lfh (all_at (λ (q : Place). q.layer ≡ layers.Lfh) p st.lfh known.sound.homes.lfh h) e))
-        | inr h ↦ absurd (false≢true (other_layer p layers.Vs (all_at (λ (q : Place). q.layer ≡ layers.Vs) p st.vs.places known.sound.homes.vs h) e))
-      ]
-    ]
-  ]
-
   -- the place of a span is the one that is found there
   found_is : (x : Span) (p : Place) → IsOneOf x st.back.area.spans → (w : HasBlock st.back.places x) → IsOneOf p st.back.places → p.start ≡ 4096 * x.first → w.place ≡ p
   found_is x p i w j e =
       let q = place_of x i w in
-      let a : address p ≡ address w.place = address_is p (layer_at p j) ∙ (e ∙ sym q.at) in
-      let here = known.one.place w.place (of_back w.place q.there) 0 in
-      let there = known.one.place p (of_back p j) 0 in
-      let both : Some w.place ≡ Some p = sym here ∙ (ap (λ (n : ℕ). place_at st 0 n) (sym a) ∙ there) in
-      (let same : w.place ≡ p = cc in same)
+      one_place s st known w.place p (of_layer st layers.Back w.place q.there) (of_layer st layers.Back p j) (q.at ∙ sym (address_by p layers.Back (layer_at s st known layers.Back p j) ∙ e))
 
-  in_vs : (p : Place) → IsOneOf p (all_places st) → p.layer ≡ layers.Vs → IsOneOf p st.vs.places
-  in_vs p i e = elim (in_parts p (st.lfh ++ st.vs.places ++ st.back.places) st.large i) [
-    | inr j ↦ absurd (vs_only p layers.Large (all_at (λ (q : Place). q.layer ≡ layers.Large) p st.large known.sound.homes.large j) e refl)
-    | inl j ↦ elim (in_parts p (st.lfh ++ st.vs.places) st.back.places j) [
-      | inr k ↦ absurd (vs_only p layers.Back (layer_at p k) e refl)
-      | inl k ↦ elim (in_parts p st.lfh st.vs.places k) [
-        | inl h ↦ absurd (vs_only p layers.Lfh (all_at (λ (q : Place). q.layer ≡ layers.Lfh) p st.lfh known.sound.homes.lfh h) e refl)
-        | inr h ↦ h
-      ]
-    ]
-  ]
+  -- what is known of the blocks of a run
+  abbrev AreInRun : Run → List Block → Type 0
+  AreInRun r bs = AllByRecursion (LiesIn r) bs × ByAddress bs
+
+  -- a span tells its block
+  by_span : (x : Span) (k : Kind) (b : Block) → IsOneOf x st.back.area.spans → x.kind ≡ k → IsOneOf b (blocks_of image (run_of_span st.back.places x) k) → IsOneOf b (decode image)
+  by_span x k b i e j = in_flat (λ (r : Run). blocks_of image r r.mark.kind) (run_of_span st.back.places x) b (runs_of image.descs) (run_there x i)
+      (subst (λ (q : Kind). IsOneOf b (blocks_of image (run_of_span st.back.places x) q)) (sym e) j)
+
+  ---- The low-fragmentation front end
+
+  -- each block of a run is live, and they are in order
+  in_lfh_run : (r : Run) → IsOneOf r (runs_of image.descs) → r.mark.kind ≡ kinds.Lfh → AreInRun r (blocks_of image r kinds.Lfh)
+  in_lfh_run r i k =
+      let f = span_of_run r i (ap is_of_span k) in
+      let x = f.0 in
+      let kind : x.kind ≡ kinds.Lfh = ap (λ (q : Run). q.mark.kind) f.2 ∙ k in
+      subst (λ (q : Run). AreInRun q (blocks_of image q kinds.Lfh)) f.2 (
+        all_from (LiesIn (run_of_span st.back.places x)) (blocks_of image (run_of_span st.back.places x) kinds.Lfh) (λ b j.
+            let q = subsegment_live s st image known shown x f.1 kind b j in
+            (q.low, q.high)),
+        subsegment_order s st image known shown x f.1 kind,
+      )
+
+  of_lfh_span : (x : Span) (b : Block) → IsOneOf x st.back.area.spans → x.kind ≡ kinds.Lfh → IsOneOf b (blocks_of image (run_of_span st.back.places x) kinds.Lfh) → IsOneOf b (told_blocks st)
+  of_lfh_span x b i k j =
+      let q = subsegment_live s st image known shown x i k b j in
+      let layer = layer_at s st known layers.Lfh q.place q.there in
+      live_place q.place b (of_layer st layers.Lfh q.place q.there) q.live (address_by q.place layers.Lfh layer ∙ q.start) (layer ∙ q.layer) (told_of b layers.Lfh (sym q.layer))
+
+  of_lfh_place : (p : Place) (b : Block) → IsOneOf p st.lfh → p.status ≡ Live b.size → address p ≡ b.addr → p.layer ≡ b.layer → IsOneOf b (decode image)
+  of_lfh_place p b i status at layer =
+      let h = home s st image known shown p i in
+      let of_lfh = layer_at s st known layers.Lfh p i in
+      let there = subsegment_has s st image known shown h.span h.there h.kind h.index h.below p b.size i h.block status in
+      let e : lfh_block p.start b.size ≡ b = block_fields b layers.Lfh p.start b.size (sym (address_by p layers.Lfh of_lfh) ∙ at) refl (sym of_lfh ∙ layer) in
+      by_span h.span kinds.Lfh b h.there h.kind (subst (λ (d : Block). IsOneOf d (blocks_of image (run_of_span st.back.places h.span) kinds.Lfh)) e there)
+
+  -- its runs can be read
+  read_of_kind : (r : Run) → IsOneOf r (runs_of image.descs) → (k : Kind) → r.mark.kind ≡ k → IsRunOfBlocks image.limits r k × BlocksFit image r k
+  read_of_kind r i kinds.Header k = (tt, tt)
+  read_of_kind r i kinds.Free k = (tt, tt)
+  read_of_kind r i kinds.Vs k = (tt, tt)
+  read_of_kind r i kinds.Back k = (tt, tt)
+  read_of_kind r i kinds.Lfh k =
+      let f = span_of_run r i (ap is_of_span k) in
+      let x = f.0 in
+      let kind : x.kind ≡ kinds.Lfh = ap (λ (q : Run). q.mark.kind) f.2 ∙ k in
+      subst (λ (q : Run). IsRunOfBlocks image.limits q kinds.Lfh × BlocksFit image q kinds.Lfh) f.2 (
+        of_bucket s st image known shown x f.1 kind,
+        all_from (λ (b : Block). b.size ≤ block_size x.bucket) (blocks_of image (run_of_span st.back.places x) kinds.Lfh) (λ b j. (subsegment_live s st image known shown x f.1 kind b j).fits),
+      )
 
   ---- Where no place of the variable-size layer is in hand
 
@@ -250,6 +246,27 @@ module _ (s : Setting) (st : State) (image : Image) (known : IsKnownState s st) 
       live = hands;
     }
 
+    -- chunks tile the runs of the layer
+    row_of_kind : (r : Run) → IsOneOf r (runs_of image.descs) → (k : Kind) → r.mark.kind ≡ k → IsRunOfChunks image.heads r k
+    row_of_kind r i kinds.Header k = tt
+    row_of_kind r i kinds.Free k = tt
+    row_of_kind r i kinds.Lfh k = tt
+    row_of_kind r i kinds.Back k = tt
+    row_of_kind r i kinds.Vs k =
+        let f = span_of_run r i (ap is_of_span k) in
+        let kind : f.0.kind ≡ kinds.Vs = ap (λ (q : Run). q.mark.kind) f.2 ∙ k in
+        subst (λ (q : Run). IsRunOfChunks image.heads q kinds.Vs) f.2 (span_row st.back.area.spans st.vs.places layer_known f.0 f.1 kind image.heads shown.marks)
+
+    pub can_read : IsReadable image
+    can_read = record {
+      whole = shown.whole;
+      rows = all_from (λ (r : Run). IsRunOfChunks image.heads r r.mark.kind) (runs_of image.descs) (λ r i. row_of_kind r i r.mark.kind refl);
+      told = λ g h e. let here = sym (shown.marks g) ∙ e in tells g h (wide st.back.area.spans st.vs.places layer_known g h here) here;
+      subsegments = all_from (λ (r : Run). IsRunOfBlocks image.limits r r.mark.kind) (runs_of image.descs) (λ r i. (read_of_kind r i r.mark.kind refl).0);
+      fits = all_from (λ (r : Run). BlocksFit image r r.mark.kind) (runs_of image.descs) (λ r i. (read_of_kind r i r.mark.kind refl).1);
+      words = shown.front.words_are;
+    }
+
     -- the blocks of a run of the layer
     abbrev run_blocks : Run → List Block
     run_blocks r = blocks_of image r kinds.Vs
@@ -266,10 +283,6 @@ module _ (s : Setting) (st : State) (image : Image) (known : IsKnownState s st) 
         let high = f.high in
         (omega arith, omega arith)
 
-    -- what is known of the blocks of a run
-    abbrev AreInRun : Run → List Block → Type 0
-    AreInRun r bs = AllByRecursion (LiesIn r) bs × ByAddress bs
-
     in_vs_run : (r : Run) → IsOneOf r (runs_of image.descs) → r.mark.kind ≡ kinds.Vs → AreInRun r (run_blocks r)
     in_vs_run r i k =
         let f = span_of_run r i (ap is_of_span k) in
@@ -283,7 +296,7 @@ module _ (s : Setting) (st : State) (image : Image) (known : IsKnownState s st) 
     in_any_run : (r : Run) → IsOneOf r (runs_of image.descs) → (k : Kind) → r.mark.kind ≡ k → AreInRun r (blocks_of image r k)
     in_any_run r i kinds.Header k = (tt, tt)
     in_any_run r i kinds.Free k = (tt, tt)
-    in_any_run r i kinds.Lfh k = (tt, tt)
+    in_any_run r i kinds.Lfh k = in_lfh_run r i k
     in_any_run r i kinds.Back k = let some = some_pages image.descs 0 (length image.descs) (runs_of image.descs) r shown.whole i in (((omega arith, omega arith), tt), (tt, tt))
     in_any_run r i kinds.Vs k = in_vs_run r i k
 
@@ -291,10 +304,10 @@ module _ (s : Setting) (st : State) (image : Image) (known : IsKnownState s st) 
     of_vs_span : (x : Span) (b : Block) → IsOneOf x st.back.area.spans → x.kind ≡ kinds.Vs → IsOneOf b (run_blocks (run_of_span st.back.places x)) → IsOneOf b (told_blocks st)
     of_vs_span x b i k j =
         let f = found_in_span x b i k j in
-        let layer = all_at (λ (q : Place). q.layer ≡ layers.Vs) f.place st.vs.places known.sound.homes.vs f.there in
+        let layer = layer_at s st known layers.Vs f.place f.there in
         let of_vs : layers.Vs ≡ b.layer = ap (λ (d : Block). d.layer) f.is in
-        live_place f.place b (in_left f.place (st.lfh ++ st.vs.places ++ st.back.places) st.large (in_left f.place (st.lfh ++ st.vs.places) st.back.places (in_right f.place st.lfh st.vs.places f.there)))
-        (f.live ∙ ap (λ (d : Block). Live d.size) f.is) (vs_address f.place layer ∙ ap (λ (d : Block). d.addr) f.is) (layer ∙ of_vs) (told_of_vs b (sym of_vs))
+        live_place f.place b (of_layer st layers.Vs f.place f.there)
+        (f.live ∙ ap (λ (d : Block). Live d.size) f.is) (address_by f.place layers.Vs layer ∙ ap (λ (d : Block). d.addr) f.is) (layer ∙ of_vs) (told_of b layers.Vs (sym of_vs))
 
     of_back_span : (x : Span) (b : Block) → IsOneOf x st.back.area.spans → x.kind ≡ kinds.Back → block_of 4096 (run_of_span st.back.places x) ≡ b → IsOneOf b (told_blocks st)
     of_back_span x b i k e =
@@ -302,12 +315,14 @@ module _ (s : Setting) (st : State) (image : Image) (known : IsKnownState s st) 
         let p = place_of x i w in
         let same : back_block (4096 * x.first) w.size ≡ b = sym (block_is x i k w) ∙ e in
         let of_back_layer : layers.Back ≡ b.layer = ap (λ (d : Block). d.layer) same in
-        live_place w.place b (of_back w.place p.there) (w.live ∙ ap (λ (d : Block). Live d.size) same) (p.at ∙ ap (λ (d : Block). d.addr) same) (p.layer ∙ of_back_layer) (told_of_back b (sym of_back_layer))
+        live_place w.place b (of_layer st layers.Back w.place p.there) (w.live ∙ ap (λ (d : Block). Live d.size) same) (p.at ∙ ap (λ (d : Block). d.addr) same) (p.layer ∙ of_back_layer) (told_of b layers.Back (sym of_back_layer))
 
     of_run : (r : Run) (b : Block) → IsOneOf r (runs_of image.descs) → (k : Kind) → r.mark.kind ≡ k → IsOneOf b (blocks_of image r k) → IsOneOf b (told_blocks st)
     of_run r b i kinds.Header k j = absurd j
     of_run r b i kinds.Free k j = absurd j
-    of_run r b i kinds.Lfh k j = absurd j
+    of_run r b i kinds.Lfh k j =
+        let f = span_of_run r i (ap is_of_span k) in
+        of_lfh_span f.0 b f.1 (ap (λ (q : Run). q.mark.kind) f.2 ∙ k) (subst (λ (q : Run). IsOneOf b (blocks_of image q kinds.Lfh)) (sym f.2) j)
     of_run r b i kinds.Back k j =
         let f = span_of_run r i (ap is_of_span k) in
         let e : block_of 4096 r ≡ b = elim j [ inl e ↦ e | inr n ↦ absurd n ] in
@@ -320,10 +335,6 @@ module _ (s : Setting) (st : State) (image : Image) (known : IsKnownState s st) 
     told_live b i = let f = from_flat (λ (r : Run). blocks_of image r r.mark.kind) (runs_of image.descs) b i in of_run f.0 b f.1 f.0.mark.kind refl f.2
 
     -- each live block of these layers is told of
-    by_span : (x : Span) (k : Kind) (b : Block) → IsOneOf x st.back.area.spans → x.kind ≡ k → IsOneOf b (blocks_of image (run_of_span st.back.places x) k) → IsOneOf b (decode image)
-    by_span x k b i e j = in_flat (λ (r : Run). blocks_of image r r.mark.kind) (run_of_span st.back.places x) b (runs_of image.descs) (run_there x i)
-        (subst (λ (q : Kind). IsOneOf b (blocks_of image (run_of_span st.back.places x) q)) (sym e) j)
-
     of_back_place : (p : Place) (b : Block) → IsOneOf p st.back.places → p.status ≡ Live b.size → address p ≡ b.addr → p.layer ≡ b.layer → IsOneOf b (decode image)
     of_back_place p b i status at layer =
         let home : IsInBack st.back.area.spans p.start p.granules = all_at (λ (q : Place). IsInBack st.back.area.spans q.start q.granules) p st.back.places known.sound.places.back i in
@@ -333,7 +344,7 @@ module _ (s : Setting) (st : State) (image : Image) (known : IsKnownState s st) 
         let size : Live w.size ≡ Live b.size = sym w.live ∙ (ap (λ (r : Place). r.status) same ∙ status) in
         let n : w.size ≡ b.size = cc in
         let addr : 4096 * home.span.first ≡ b.addr = sym q.at ∙ (ap address same ∙ at) in
-        let e : block_of 4096 (run_of_span st.back.places home.span) ≡ b = block_is home.span home.there home.kind w ∙ block_fields b layers.Back (4096 * home.span.first) w.size addr n (sym (layer_at p i) ∙ layer) in
+        let e : block_of 4096 (run_of_span st.back.places home.span) ≡ b = block_is home.span home.there home.kind w ∙ block_fields b layers.Back (4096 * home.span.first) w.size addr n (sym (layer_at s st known layers.Back p i) ∙ layer) in
         by_span home.span kinds.Back b home.there home.kind (inl e)
 
     of_vs_place : (p : Place) (b : Block) → IsOneOf p st.vs.places → p.status ≡ Live b.size → address p ≡ b.addr → p.layer ≡ b.layer → IsOneOf b (decode image)
@@ -342,19 +353,25 @@ module _ (s : Setting) (st : State) (image : Image) (known : IsKnownState s st) 
         let behind = home.behind in
         let before = home.before in
         let two = home.two in
-        let of_vs = all_at (λ (q : Place). q.layer ≡ layers.Vs) p st.vs.places known.sound.homes.vs i in
+        let of_vs = layer_at s st known layers.Vs p i in
         let there = span_has st.back.area.spans st.vs.places layer_known home.span home.there home.kind (head_told image) tells p b.size i status (omega arith) (omega arith) in
-        let e : vs_block p.start b.size ≡ b = block_fields b layers.Vs (p.start + 16) b.size (sym (vs_address p of_vs) ∙ at) refl (sym of_vs ∙ layer) in
+        let e : vs_block p.start b.size ≡ b = block_fields b layers.Vs (p.start + 16) b.size (sym (address_by p layers.Vs of_vs) ∙ at) refl (sym of_vs ∙ layer) in
         by_span home.span kinds.Vs b home.there home.kind (subst (λ (d : Block). IsOneOf d (run_blocks (run_of_span st.back.places home.span))) e there)
 
     live_told : (b : Block) → IsOneOf b (told_blocks st) → IsOneOf b (decode image)
     live_told b i =
         let f = filtered_cases is_told b (live st) i in
         let h : HasRoom (all_places st) b = all_at (HasRoom (all_places st)) b (live st) known.blocks.room f.0 in
-        elim (or_cases (is_layer b.layer layers.Back) (is_layer b.layer layers.Vs) f.1) [
-          | inl e ↦ of_back_place h.place b (in_back h.place h.there (h.layer ∙ sym (layer_is b.layer layers.Back e))) h.live h.at h.layer
-          | inr e ↦ of_vs_place h.place b (in_vs h.place h.there (h.layer ∙ sym (layer_is b.layer layers.Vs e))) h.live h.at h.layer
+        elim (or_cases (is_layer b.layer layers.Back || is_layer b.layer layers.Vs) (is_layer b.layer layers.Lfh) f.1) [
+          | inr e ↦ of_lfh_place h.place b (of layers.Lfh h e) h.live h.at h.layer
+          | inl k ↦ elim (or_cases (is_layer b.layer layers.Back) (is_layer b.layer layers.Vs) k) [
+            | inl e ↦ of_back_place h.place b (of layers.Back h e) h.live h.at h.layer
+            | inr e ↦ of_vs_place h.place b (of layers.Vs h e) h.live h.at h.layer
+          ]
         ]
+      where
+        of : (l : Layer) (h : HasRoom (all_places st) b) → is_layer b.layer l ≡ true → IsOneOf h.place (places_of st l)
+        of l h e = in_layer s st known l h.place h.there (h.layer ∙ sym (layer_is b.layer l e))
 
     pub told : decode image ≡ told_blocks st
     told = same_blocks (decode image) (told_blocks st)
@@ -371,16 +388,16 @@ module _ (s : Setting) (st : State) (image : Image) (known : IsKnownState s st) 
         elim (in_parts h.place (st.lfh ++ st.vs.places ++ st.back.places) st.large h.there) [
           | inr j ↦ absurd (not_live st.large h.place b.size only.large j h.live)
           | inl j ↦ elim (in_parts h.place (st.lfh ++ st.vs.places) st.back.places j) [
-            | inr k ↦ told_of_back b (sym h.layer ∙ layer_at h.place k)
+            | inr k ↦ told_of b layers.Back (sym h.layer ∙ layer_at s st known layers.Back h.place k)
             | inl k ↦ elim (in_parts h.place st.lfh st.vs.places k) [
-              | inl m ↦ absurd (not_live st.lfh h.place b.size only.lfh m h.live)
-              | inr m ↦ told_of_vs b (sym h.layer ∙ all_at (λ (q : Place). q.layer ≡ layers.Vs) h.place st.vs.places known.sound.homes.vs m)
+              | inl m ↦ told_of b layers.Lfh (sym h.layer ∙ layer_at s st known layers.Lfh h.place m)
+              | inr m ↦ told_of b layers.Vs (sym h.layer ∙ layer_at s st known layers.Vs h.place m)
             ]
           ]
         ]
 
     pub told_whole : OnlyToldLive st → decode image ≡ live st
-    told_whole only = told ∙ filtered_whole is_told (live st) (all_told only)
+    told_whole only = told ∙ all_kept is_told (live st) (all_told only)
 
   ---- What an image can show
 

@@ -1,13 +1,12 @@
 -- The walk over the chunks of a span finds the live blocks of the places in it, by address.
-use Rattle.std.proofs.Common.{◌≡◌, ℕ, zero, suc, ◌+◌, ◌-◌, ◌*◌, ◌/◌, ◌<◌, ◌≤◌, false, cond, ltb, List, [], ◌∷◌, ◌++◌, Option, Some, refl, sym, ap, ◌∙◌, subst, arith, inl, inr, ◌⊎◌}
+use Rattle.std.proofs.Common.{◌≡◌, ℕ, zero, suc, ◌+◌, ◌-◌, ◌*◌, ◌/◌, ◌<◌, ◌≤◌, false, ltb, List, [], ◌∷◌, ◌++◌, Option, Some, refl, sym, ap, ◌∙◌, subst, arith, inl, inr, ◌⊎◌}
 use Rattle.std.specs.Prelude.{unwrap_or}
 use Rattle.std.specs.Option.{option_map_or}
 use Rattle.std.proofs.lemmas.Bool.{cases_lt, lt-ltb, le-ltb}
 use Rattle.heap_model.specs.declared.Block.{Block}
 use Rattle.heap_model.specs.declared.Kind.TheVariants as kinds
-use Rattle.heap_model.specs.declared.Layer.{Layer}
 use Rattle.heap_model.specs.declared.Layer.TheVariants as layers
-use Rattle.heap_model.specs.State.{Span, Place, Status, Live, live_size, is_layer, room}
+use Rattle.heap_model.specs.State.{Span, Place, Status, Live, live_size}
 use Rattle.vs_headers.specs.declared.Head.{Head}
 use Rattle.vs_headers.specs.Headers.{IsHead}
 use Rattle.vs_split.specs.Shown.{head_shown}
@@ -16,6 +15,7 @@ use Rattle.heap_soundness.specs.Sound.{IsOneOf, AreApart, HasSoundSize}
 use Rattle.heap_soundness.proofs.Lists.{all_from}
 use Rattle.heap_soundness.proofs.Addresses.{members_apart}
 use Rattle.decode_laws.proofs.Members.{in_parts, in_left, in_right}
+use Rattle.decode_laws.proofs.Known.{room_by}
 use Rattle.decode_laws.proofs.Rising.{IsBelow, ByAddress}
 use Rattle.decode_laws.proofs.Chunks.{spans_of, AreKnown, IsPlaceAt, IsGapAt, IsBoundary, HasChunk, live_is, home, layer_at, size_at, live_at, some_pages, first_boundary, chunk_at}
 
@@ -32,9 +32,6 @@ pub record IsBlockIn (ps : List Place) (from to : ℕ) (b : Block) : Type 0 wher
   pub is : vs_block place.start size ≡ b
   pub low : 16 * from ≤ place.start
   pub high : place.start + 32 ≤ 16 * to
-
-room_is : (p : Place) → p.layer ≡ layers.Vs → room p ≡ 16 * p.granules - 16
-room_is p e = ap (λ (l : Layer). cond (is_layer l layers.Vs) (16 * p.granules - 16) (16 * p.granules)) e
 
 -- one more chunk
 walk_more : (told : ℕ → Option Head) (n g to : ℕ) (h : Head) → g < to → told g ≡ Some h → chunk_blocks told (suc n) g to ≡ block_if g h ++ chunk_blocks told n (g + h.units) to
@@ -59,7 +56,7 @@ module _ (xs : List Span) (ps : List Place) (known : AreKnown xs ps) (x : Span) 
   place_block g h w size e =
       let sound : HasSoundSize w.place (Live size) = subst (HasSoundSize w.place) e (size_at xs ps known w.place w.there) in
       let fits = sound.0 in
-      let room = room_is w.place (layer_at xs ps known w.place w.there) in
+      let room = room_by w.place layers.Vs (layer_at xs ps known w.place w.there) in
       let unused : h.unused ≡ 16 * (w.place.granules - 1) - size = w.unused ∙ ap (λ (t : Status). 16 * (w.place.granules - 1) - unwrap_or (live_size t) 0) e in
       let units = w.units in
       let at = w.at in

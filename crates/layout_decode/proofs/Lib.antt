@@ -3,3 +3,5 @@ pub mod Rows
 pub mod OneRun
 pub mod Images
 pub mod Told
+pub mod SubsegmentLemmas
+pub mod Segments

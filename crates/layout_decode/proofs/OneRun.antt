@@ -11,7 +11,8 @@ use Rattle.vs_headers.specs.declared.Head.{Head}
 use Rattle.vs_split.specs.Chunks.{head_at}
 use Rattle.vs_split.specs.Tiles.{IsTiled}
 use Rattle.layout_decode.specs.declared.Image.{Image}
-use Rattle.layout_decode.specs.Decode.{head_told, blocks_of, is_at_or_after, total_of, IsRunOfChunks, AreTold}
+use Rattle.layout_decode.specs.Decode.{head_told, blocks_of, is_at_or_after, total_of, IsRunOfChunks, IsRunOfBlocks, BlocksFit, AreTold}
+use Rattle.layout_decode.proofs.SubsegmentLemmas as subsegments
 use Rattle.layout_decode.proofs.Rows.{row_blocks, chunks_are, none_in_row, IsAt, begins, IsCounted, bounds}
 
 module _ (image : Image) (t : IsTiled image.heads) (told : AreTold image) where
@@ -64,29 +65,39 @@ module _ (image : Image) (t : IsTiled image.heads) (told : AreTold image) where
         let b = bounds image.heads t 0 front end chunks.0 chunks.1 in
         (omega (arith, b.0, ap (length {A = Block}) blocks_are), omega (arith, b.1, ap total_of blocks_are))
 
+-- What a walk knows of a run of an image that can be read.
+pub record IsReadableRun (image : Image) (r : Run) (k : Kind) : Type 0 where
+  pub chunks : IsRunOfChunks image.heads r k
+  pub subsegment : IsRunOfBlocks image.limits r k
+  pub fit : BlocksFit image r k
+
+module _ (image : Image) (t : IsTiled image.heads) (told : AreTold image) where
   -- the blocks of a run of any kind, as a walk takes them
   abbrev pub of_run : Run → List Block
   of_run r = blocks_of image r r.mark.kind
 
+  abbrev pub Readable : Run → Type 0
+  Readable r = IsReadableRun image r r.mark.kind
+
   -- a run that ends at an address or before it has no block there or behind
-  none_of_kind : (from : ℕ) (r : Run) (k : Kind) → IsRunOfChunks image.heads r k → 0 < r.pages → 4096 * (r.first + r.pages) ≤ from → find (is_at_or_after from) (blocks_of image r k) ≡ None
+  none_of_kind : (from : ℕ) (r : Run) (k : Kind) → IsReadableRun image r k → 0 < r.pages → 4096 * (r.first + r.pages) ≤ from → find (is_at_or_after from) (blocks_of image r k) ≡ None
   none_of_kind from r kinds.Header q some l = refl
   none_of_kind from r kinds.Free q some l = refl
-  none_of_kind from r kinds.Lfh q some l = refl
+  none_of_kind from r kinds.Lfh q some l = subsegments.none_here image r from q.subsegment l
   none_of_kind from r kinds.Back q some l = let e = lt-leb from (4096 * r.first) (omega arith) in rw e refl
-  none_of_kind from r kinds.Vs q some l = none_here r q from (omega arith)
+  none_of_kind from r kinds.Vs q some l = none_here image t told r q.chunks from (omega arith)
 
-  pub none_before : (from page : ℕ) → 4096 * page ≤ from → (r : Run) → IsRunOfChunks image.heads r r.mark.kind → 0 < r.pages → r.first + r.pages ≤ page → find (is_at_or_after from) (of_run r) ≡ None
+  pub none_before : (from page : ℕ) → 4096 * page ≤ from → (r : Run) → Readable r → 0 < r.pages → r.first + r.pages ≤ page → find (is_at_or_after from) (of_run r) ≡ None
   none_before from page low r q some l = none_of_kind from r r.mark.kind q some (omega arith)
 
-  few_of_kind : (r : Run) (k : Kind) → IsRunOfChunks image.heads r k → 0 < r.pages → (length (blocks_of image r k) ≤ 256 * r.pages) × (total_of (blocks_of image r k) ≤ 4096 * r.pages)
+  few_of_kind : (r : Run) (k : Kind) → IsReadableRun image r k → 0 < r.pages → (length (blocks_of image r k) ≤ 256 * r.pages) × (total_of (blocks_of image r k) ≤ 4096 * r.pages)
   few_of_kind r kinds.Header q some = (omega arith, omega arith)
   few_of_kind r kinds.Free q some = (omega arith, omega arith)
-  few_of_kind r kinds.Lfh q some = (omega arith, omega arith)
+  few_of_kind r kinds.Lfh q some = subsegments.few_here image r q.subsegment q.fit
   few_of_kind r kinds.Back q some = (omega arith, omega arith)
-  few_of_kind r kinds.Vs q some = few_here r q
+  few_of_kind r kinds.Vs q some = few_here image t told r q.chunks
 
-  pub few : (r : Run) → IsRunOfChunks image.heads r r.mark.kind → 0 < r.pages → (length (of_run r) ≤ 256 * r.pages) × (total_of (of_run r) ≤ 4096 * r.pages)
+  pub few : (r : Run) → Readable r → 0 < r.pages → (length (of_run r) ≤ 256 * r.pages) × (total_of (of_run r) ≤ 4096 * r.pages)
   few r q some = few_of_kind r r.mark.kind q some
 
 -- a header page has no block

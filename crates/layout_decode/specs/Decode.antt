@@ -1,12 +1,15 @@
--- The live blocks that the metadata of a heap tells of: descriptors and header words, and nothing else.
-use Rattle.std.specs.Prelude.{◌≡◌, ℕ, zero, suc, ◌+◌, ◌-◌, ◌*◌, Bool, nat_le, nat_lt, List, [], ◌∷◌, ◌++◌, flat_map, sum_by, Option, Some, if◌then◌else◌, cond}
+-- The live blocks that the metadata of a heap tells of: descriptors, header words, bitmaps and size words, and nothing else.
+use Rattle.std.specs.Prelude.{◌≡◌, ℕ, zero, suc, ◌+◌, ◌-◌, ◌*◌, ◌/◌, ◌%◌, ◌==◌, ◌≤◌, Bool, ◌&&◌, not, nat_le, nat_lt, List, [], ◌∷◌, ◌++◌, slice_index, flat_map, sum_by, Option, Some, if◌then◌else◌, cond}
 use Rattle.std.specs.List.{AllByRecursion}
 use Rattle.std.specs.Option.{option_map_or}
 use Rattle.heap_model.specs.declared.Kind.{Kind}
 use Rattle.heap_model.specs.declared.Kind.TheVariants as kinds
 use Rattle.heap_model.specs.declared.Layer.TheVariants as layers
 use Rattle.heap_model.specs.declared.Block.{Block}
+use Rattle.heap_model.specs.declared.Limits.{Limits}
 use Rattle.heap_model.specs.declared.Run.{Run}
+use Rattle.heap_model.specs.Bits.{has_bit}
+use Rattle.heap_model.specs.Buckets.{block_size, block_count, block_address, bucket_pages}
 use Rattle.heap_model.specs.Geometry.{page_bytes}
 use Rattle.page_ranges.specs.Words.{runs_of}
 use Rattle.page_ranges.specs.Ranges.{IsWhole}
@@ -15,7 +18,10 @@ use Rattle.vs_headers.specs.declared.Head.{Head}
 use Rattle.vs_headers.specs.Headers.{decoded}
 use Rattle.vs_split.specs.Chunks.{Chunks, head_at, word_at}
 use Rattle.vs_split.specs.Laws.{AreOfSpan}
+use Rattle.table_words.specs.Told.{AreWords, bits_in, size_place}
 use Rattle.layout_decode.specs.declared.Image.{Image}
+
+---- The variable-size layer
 
 -- the head that the header word of a granule tells
 abbrev pub head_told : Image → ℕ → Option Head
@@ -35,10 +41,36 @@ chunk_blocks told zero g to = []
 chunk_blocks told (suc n) g to =
     cond (nat_lt g to) (option_map_or (λ h. block_if g h ++ chunk_blocks told n (g + h.units) to) (told g) []) []
 
--- the blocks of a run: one of the back end is a block, and one of the variable-size layer has those of its chunks, behind its first 48 bytes
+---- The low-fragmentation front end
+
+-- the size word of an address
+abbrev pub size_word_of : Image → ℕ → ℕ
+size_word_of image addr = slice_index image.words (size_place image.limits addr)
+
+-- the bit of block i of the subsegment that a run is
+abbrev pub is_taken_in : Image → Run → ℕ → Bool
+is_taken_in image r i = has_bit (bits_in image.limits image.words r.first (i / 64)) (i % 64)
+
+-- block i of the subsegment, where its bit is set and its size word is not 0; this tells the size plus 1
+abbrev pub block_at_bit : Image → Run → ℕ → List Block
+block_at_bit image r i =
+    let addr = block_address r.mark.bucket r.first i in
+    let word = size_word_of image addr in
+    if is_taken_in image r i && not (word == 0) then record { addr = addr; size = word - 1; layer = layers.Lfh } ∷ [] else []
+
+-- the blocks among so many from block i on
+abbrev pub blocks_at_bits : Image → Run → ℕ → ℕ → List Block
+blocks_at_bits image r zero i = []
+blocks_at_bits image r (suc n) i = block_at_bit image r i ++ blocks_at_bits image r n (suc i)
+
+---- All layers
+
+-- the blocks of a run: one of the back end is a block, one of the variable-size layer has those of its chunks, behind its first 48 bytes,
+-- and one of the low-fragmentation front end those of its bits
 abbrev pub blocks_of : Image → Run → Kind → List Block
 blocks_of image r kinds.Back = block_of page_bytes r ∷ []
 blocks_of image r kinds.Vs = chunk_blocks (head_told image) (256 * r.pages) (256 * r.first + 3) (256 * (r.first + r.pages))
+blocks_of image r kinds.Lfh = blocks_at_bits image r (block_count r.mark.bucket) 0
 blocks_of image r _ = []
 
 -- the blocks that an image tells of, by address
@@ -61,8 +93,28 @@ IsRunOfChunks v r _ = Unit {0}
 abbrev pub AreTold : Image → Type 0
 AreTold image = (g : ℕ) (h : Head) → head_at image.heads g ≡ Some h → head_told image g ≡ Some h
 
--- An image can be read: its runs are whole, chunks tile those of the variable-size layer, and each header word tells its chunk.
+-- the run is a subsegment of its bucket, in the segments of the heap
+pub record IsOfBucket (l : Limits) (r : Run) : Type 0 where
+  pub bucket : (1 ≤ r.mark.bucket) × (r.mark.bucket ≤ 128)
+  pub pages : r.pages ≡ bucket_pages r.mark.bucket
+  pub inside : r.first + r.pages ≤ 256 * l.segments
+
+-- .. if it is one of the low-fragmentation front end
+abbrev pub IsRunOfBlocks : Limits → Run → Kind → Type 0
+IsRunOfBlocks l r kinds.Lfh = IsOfBucket l r
+IsRunOfBlocks l r _ = Unit {0}
+
+-- each block of the run was asked for no more bytes than it has, if the run is one of the low-fragmentation front end
+abbrev pub BlocksFit : Image → Run → Kind → Type 0
+BlocksFit image r kinds.Lfh = AllByRecursion (λ b. b.size ≤ block_size r.mark.bucket) (blocks_of image r kinds.Lfh)
+BlocksFit image r _ = Unit {0}
+
+-- An image can be read: its runs are whole, chunks tile those of the variable-size layer, each header word tells its chunk, those of the
+-- low-fragmentation front end are subsegments of their buckets, whose blocks fit, and the words are those of a heap with these limits.
 pub record IsReadable (image : Image) : Type 0 where
   pub whole : IsWhole image.descs
   pub rows : AllByRecursion (λ r. IsRunOfChunks image.heads r r.mark.kind) (runs_of image.descs)
   pub told : AreTold image
+  pub subsegments : AllByRecursion (λ r. IsRunOfBlocks image.limits r r.mark.kind) (runs_of image.descs)
+  pub fits : AllByRecursion (λ r. BlocksFit image r r.mark.kind) (runs_of image.descs)
+  pub words : AreWords image.limits image.words

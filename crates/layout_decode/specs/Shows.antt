@@ -1,20 +1,25 @@
 -- When an image shows a state.
-use Rattle.std.specs.Prelude.{◌≡◌, ℕ, ◌*◌, ◌-◌, List, map, option_and_then, unwrap_or}
-use Rattle.std.specs.List.{find}
+use Rattle.std.specs.Prelude.{◌≡◌, ℕ, ◌+◌, ◌*◌, ◌-◌, ◌/◌, ◌%◌, ◌<◌, ◌≤◌, true, List, [], ◌∷◌, map, slice_index, option_map, option_and_then, unwrap_or}
+use Rattle.std.specs.List.{find, list_any}
 use Rattle.heap_model.specs.declared.Kind.{Kind}
 use Rattle.heap_model.specs.declared.Kind.TheVariants as kinds
+use Rattle.heap_model.specs.declared.Limits.{Limits}
 use Rattle.heap_model.specs.declared.Run.{Run}
 use Rattle.heap_model.specs.Geometry.{page_bytes}
 use Rattle.heap_model.specs.State.{State, Setting, Span, Place, live_size, has_address}
-use Rattle.heap_model.specs.Backend.{free_runs}
+use Rattle.heap_model.specs.Backend.{free_runs, in_span}
 use Rattle.heap_model.specs.Ranges.{vs_spans}
+use Rattle.heap_model.specs.Search.{begins_at, spans_of}
 use Rattle.page_region.specs.Held.{committed_of}
 use Rattle.page_ranges.specs.Words.{runs_of}
 use Rattle.page_ranges.specs.Ranges.{IsWhole}
 use Rattle.page_ranges.specs.Spans.{taken_runs, frees_in}
 use Rattle.vs_headers.specs.Headers.{key_of}
-use Rattle.vs_split.specs.Chunks.{word_at}
-use Rattle.vs_split.specs.Shown.{word_shown}
+use Rattle.vs_split.specs.Chunks.{head_at, word_at}
+use Rattle.vs_split.specs.Shown.{head_shown, word_shown}
+use Rattle.claim_rule.specs.Places.{active_region, hints_region, tags_region, bitmaps_region, sizes_region}
+use Rattle.claim_rule.specs.Shown.{AreShown, lfh_spans, flag, tag_of, bitmap_word, size_word}
+use Rattle.table_words.specs.Told.{AreWords}
 use Rattle.layout_decode.specs.declared.Image.{Image}
 
 -- the bytes at the end of a back-end span that its block was not asked for
@@ -31,8 +36,24 @@ run_of_span places x = record {
   mark = record { kind = x.kind; bucket = x.bucket; slot = x.slot; unused = unused_in places x x.kind };
 }
 
--- The descriptors are those of the spans and the free runs of the state, the region has its reserved segments and committed pages, and
--- the header words are those of its places and gaps, by the key of the heap.
+-- a hint is 0 where there is no subsegment of its bucket and slot, and else names one
+abbrev pub IsHintOf : List Span → ℕ → Type 0
+IsHintOf [] word = word ≡ 0
+IsHintOf (x ∷ xs) word = list_any (begins_at word) (x ∷ xs) ≡ true
+
+-- The words of the low-fragmentation front end: which buckets are active, which blocks are taken and which sizes they were asked for, of
+-- which subsegment each page is, and which one a search reads first.
+pub record ShowsFront (l : Limits) (words : List ℕ) (st : State) : Type 0 where
+  pub words_are : AreWords l words
+  pub active : AreShown words active_region (λ k. flag (st.vs.active (k + 1)))
+  pub hints : (b slot : ℕ) → 1 ≤ b → b ≤ 128 → slot < 16 → IsHintOf (spans_of st.back.area b slot) (slice_index words (hints_region.from + 16 * (b - 1) + slot))
+  pub tags : AreShown words (tags_region l) (λ page. unwrap_or (option_map tag_of (find (in_span page) (lfh_spans st.back.area))) 0)
+  pub bitmaps : AreShown words (bitmaps_region l) (λ k. bitmap_word st.lfh (lfh_spans st.back.area) (k / 4) (k % 4))
+  pub sizes : AreShown words (sizes_region l) (size_word st.lfh)
+
+-- The descriptors are those of the spans and the free runs of the state, the region has its reserved segments and committed pages, a chunk is
+-- marked where a place or a gap begins and nowhere else, the header words are those of its places and gaps, by the key of the heap, and the
+-- words of the low-fragmentation front end are those of its front end.
 pub record Shows (image : Image) (s : Setting) (st : State) : Type 0 where
   pub limits : image.limits ≡ s.limits
   pub key : image.key ≡ key_of s.seed
@@ -41,4 +62,6 @@ pub record Shows (image : Image) (s : Setting) (st : State) : Type 0 where
   pub whole : IsWhole image.descs
   pub spans : taken_runs (runs_of image.descs) ≡ map (run_of_span st.back.places) st.back.area.spans
   pub free : frees_in (runs_of image.descs) ≡ free_runs st.back.area
+  pub marks : (g : ℕ) → head_at image.heads g ≡ head_shown (vs_spans st.back.area) st.vs.places g
   pub headers : (g : ℕ) → word_at image.heads g ≡ word_shown image.key (vs_spans st.back.area) st.vs.places g
+  pub front : ShowsFront image.limits image.words st

@@ -1,12 +1,14 @@
 //! The live blocks of a heap, read from its metadata alone, as a debugger reads them from an image.
 //!
-//! An image has the region with its reserved segments and committed pages, the descriptor word of each page, and the header
-//! word of each chunk of the variable-size layer. Addresses are offsets in the heap's region, in bytes, a page has 4,096
-//! bytes and a granule 16.
+//! An image has the region with its reserved segments and committed pages, the descriptor word of each page, the header word
+//! of each chunk of the variable-size layer, and the words of the heap's table, of which decoding reads the bitmaps and the
+//! size words of the low-fragmentation front end. Addresses are offsets in the heap's region, in bytes, a page has 4,096 bytes
+//! and a granule 16.
 #![tactic(auto)]
 
 mod places;
 mod runs;
+mod subsegments;
 
 ghost use Rattle.std.specs.Prelude.{◌≡◌, length};
 ghost use Rattle.std.specs.List.{find};
@@ -17,13 +19,14 @@ use crate::runs::{count_in, next_in};
 use heap_model::{Block, Limits};
 use page_ranges::Descs;
 use page_region::Region;
+use table_words::Words;
 use vs_split::Heads;
 
 /// The bytes of a page.
 pub const PAGE_BYTES: u64 = 4096;
 
 /// What a heap leaves behind: its limits, its region, the descriptors of its pages, the key that its header words are
-/// encoded by, and those words.
+/// encoded by, those words, and the words of its table.
 #[derive(Drop)]
 pub struct Image {
     pub limits: Limits,
@@ -31,12 +34,14 @@ pub struct Image {
     pub descs: Descs,
     pub key: u64,
     pub heads: Heads,
+    pub words: Words,
 }
 
 /// The live block of the least address at or after `from`, or `None` where there is none.
 ///
-/// It goes on from the run of `from`, and in a run of the variable-size layer from the chunk of `from`, so a walk over all
-/// blocks looks at each chunk three times at most.
+/// It goes on from the run of `from`, in a run of the variable-size layer from the chunk of `from`, and in a subsegment from
+/// the block of `from`. So a walk over all blocks looks at each chunk three times at most, and at each bit of a subsegment
+/// once.
 pub fn next_block(image: &Image, from: u64) -> Option<Block>
     requires { IsReadable image.now }
     ensures { result ≡ find (is_at_or_after from) (decode image.now) }

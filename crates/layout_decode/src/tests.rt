@@ -1,5 +1,7 @@
 // Images written by hand, and the blocks that they tell of.
-ghost use Rattle.std.specs.Prelude.{◌≡◌, ◌<◌, IfOk, IsTrue, List};
+ghost use Rattle.std.specs.Prelude.{◌≡◌, ◌<◌, ◌≤◌, IfOk, IsTrue, List, slice_index, ℕ, ◌+◌};
+ghost use Rattle.claim_rule.specs.Places.{sizes_region, data_region};
+ghost use Rattle.table_words.specs.Told.{AreWords};
 ghost use Rattle.vs_headers.specs.declared.Head.{Head};
 ghost use Rattle.vs_split.specs.Laws.{IsRow};
 ghost use Rattle.layout_decode.specs.Decode.{AreTold, IsReadable};
@@ -11,6 +13,7 @@ use page_region::Region;
 use std::alloc::Global;
 use std::process::Abort;
 use std::test::Fail;
+use table_words::{Words, bitmap_at, size_at};
 use vs_split::Heads;
 
 /// The key of the heap whose seed is 42.
@@ -46,6 +49,14 @@ const CHUNKS: Mark = Mark {
     unused: 0,
 };
 
+/// The mark of a subsegment of 126 blocks of 32 bytes.
+const SUBSEGMENT: Mark = Mark {
+    kind: Kind::Lfh,
+    bucket: 2,
+    slot: 0,
+    unused: 0,
+};
+
 /// One segment, with one block on the pages behind its header.
 fn one_block(alloc: Global) -> Result<Image, OutOfMemory>
     ensures readable { IfOk result (λ image. IsReadable image) }
@@ -56,12 +67,14 @@ fn one_block(alloc: Global) -> Result<Image, OutOfMemory>
     descs.open_segment(0);
     descs.mark(2, 33, BLOCK);
     descs.mark(35, 221, FREE);
+    let words = empty_words(alloc)?;
     Ok(Image {
         limits: ONE_SEGMENT,
         region,
         descs,
         key: KEY,
         heads,
+        words,
     })
 }
 
@@ -78,12 +91,14 @@ fn four_blocks<R: Abort>(rt: &R, alloc: Global) -> Result<Image, OutOfMemory>
     descs.mark(2, 16, CHUNKS);
     descs.mark(18, 33, BLOCK);
     descs.mark(51, 205, FREE);
+    let words = empty_words(alloc)?;
     let mut image = Image {
         limits: ONE_SEGMENT,
         region,
         descs,
         key: KEY,
         heads,
+        words,
     };
     assert!(rt; could_cut(&mut image, 8240, 2, 0, true));
     assert!(rt; could_cut(&mut image, 8272, 4, 7, true));
@@ -91,6 +106,79 @@ fn four_blocks<R: Abort>(rt: &R, alloc: Global) -> Result<Image, OutOfMemory>
     assert!(rt; could_cut(&mut image, 8384, 5, 0, true));
     assert!(rt; is_row(&image.heads, 0, 515, 4608));
     Ok(image)
+}
+
+/// One segment, with a subsegment on the page behind its header, and a block on the 33 pages behind that.
+fn five_blocks<R: Abort>(rt: &R, alloc: Global) -> Result<Image, OutOfMemory>
+    ensures readable { IfOk result (λ image. IsReadable image) }
+{
+    let region = Region::new(alloc, &ONE_SEGMENT)?;
+    let heads = Heads::new(alloc, &ONE_SEGMENT, KEY)?;
+    let mut descs = Descs::new(alloc, &ONE_SEGMENT)?;
+    descs.open_segment(0);
+    descs.mark(2, 1, SUBSEGMENT);
+    descs.mark(3, 33, BLOCK);
+    descs.mark(36, 220, FREE);
+    let words = words_of_four_blocks(alloc)?;
+    assert!(rt; are_small(&words));
+    Ok(Image {
+        limits: ONE_SEGMENT,
+        region,
+        descs,
+        key: KEY,
+        heads,
+        words,
+    })
+}
+
+/// The words of a heap in which no bucket is active.
+fn empty_words(alloc: Global) -> Result<Words, OutOfMemory>
+    ensures { IfOk result (AreWords ONE_SEGMENT) }
+{
+    Words::new(alloc, &ONE_SEGMENT)
+}
+
+/// The words of the subsegment. The bits are those of blocks 0, 5, 63, 64 and 125, and block 5 is in hand: it has no size
+/// yet. Block 100 has a size, and no bit.
+fn words_of_four_blocks(alloc: Global) -> Result<Words, OutOfMemory>
+    ensures { IfOk result (AreWords ONE_SEGMENT) }
+{
+    let mut words = empty_words(alloc)?;
+    store(
+        &mut words,
+        bitmap_at(&ONE_SEGMENT, 2, 0),
+        0x8000_0000_0000_0021,
+    );
+    store(
+        &mut words,
+        bitmap_at(&ONE_SEGMENT, 2, 1),
+        0x2000_0000_0000_0001,
+    );
+    store(&mut words, size_at(&ONE_SEGMENT, 516), 33);
+    store(&mut words, size_at(&ONE_SEGMENT, 642), 18);
+    store(&mut words, size_at(&ONE_SEGMENT, 644), 1);
+    store(&mut words, size_at(&ONE_SEGMENT, 716), 31);
+    store(&mut words, size_at(&ONE_SEGMENT, 766), 21);
+    Ok(words)
+}
+
+fn store(words: &mut Words, at: usize, value: u64)
+    requires words { AreWords ONE_SEGMENT words.old }
+    requires at { at < (data_region ONE_SEGMENT).from }
+    ensures { AreWords ONE_SEGMENT words.new }
+{
+    words.set(at, value);
+}
+
+/// Whether no block was asked for more than 32 bytes.
+fn are_small(words: &Words) -> bool
+    requires { AreWords ONE_SEGMENT words.now }
+    ensures { IsTrue result → (k : ℕ) → k < (sizes_region ONE_SEGMENT).words → slice_index words.now ((sizes_region ONE_SEGMENT).from + k) ≤ 33 }
+{
+    let sizes = size_at(&ONE_SEGMENT, 0);
+    words.as_slice()[sizes..sizes + 65_536]
+        .iter()
+        .all(|word| *word <= 33)
 }
 
 /// Cuts the chunk at an address behind its first `units`, makes the front of it a place or a gap, and answers whether it
@@ -101,6 +189,8 @@ fn could_cut(image: &mut Image, addr: u64, units: u16, unused: u8, busy: bool) -
     ensures told { AreTold image.new }
     ensures key { image.new.heads.key ≡ image.new.key }
     ensures descs { image.new.descs ≡ image.old.descs }
+    ensures limits { image.new.limits ≡ image.old.limits }
+    ensures words { image.new.words ≡ image.old.words }
 {
     let Some(head) = image.heads.chunk_at(addr) else {
         return false;
@@ -170,5 +260,30 @@ fn reads_four_blocks(rt: HostRuntime) -> Result<(), Fail> {
     assert_eq!(rt; next_block(&image, 1_048_576), None);
     assert_eq!(rt; next_block(&image, u64::MAX), None);
     assert_eq!(rt; count_blocks(&image), (4, 131_194));
+    Ok(())
+}
+
+/// A subsegment whose blocks have the bits of two words, in front of a block of the back end.
+#[test]
+fn reads_five_blocks(rt: HostRuntime) -> Result<(), Fail> {
+    let image = five_blocks(&rt, rt.alloc())?;
+    let first = block(8256, 32, Layer::Lfh);
+    let second = block(10_272, 17, Layer::Lfh);
+    let third = block(10_304, 0, Layer::Lfh);
+    let fourth = block(12_256, 20, Layer::Lfh);
+    let fifth = block(12_288, 131_073, Layer::Back);
+    assert_eq!(rt; next_block(&image, 0), first);
+    assert_eq!(rt; next_block(&image, 8192), first);
+    assert_eq!(rt; next_block(&image, 8256), first);
+    assert_eq!(rt; next_block(&image, 8257), second);
+    assert_eq!(rt; next_block(&image, 8416), second);
+    assert_eq!(rt; next_block(&image, 10_272), second);
+    assert_eq!(rt; next_block(&image, 10_273), third);
+    assert_eq!(rt; next_block(&image, 10_305), fourth);
+    assert_eq!(rt; next_block(&image, 11_456), fourth);
+    assert_eq!(rt; next_block(&image, 12_256), fourth);
+    assert_eq!(rt; next_block(&image, 12_257), fifth);
+    assert_eq!(rt; next_block(&image, 12_289), None);
+    assert_eq!(rt; count_blocks(&image), (5, 131_142));
     Ok(())
 }

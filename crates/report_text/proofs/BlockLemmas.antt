@@ -1,5 +1,5 @@
 -- On the blocks at or after an address, among blocks in the order of their addresses.
-use Rattle.std.proofs.Common.{◌≡◌, ℕ, ◌+◌, ◌*◌, ◌<◌, ◌≤◌, List, [], ◌∷◌, ◌++◌, length, Some, None, refl, sym, ap, subst, arith, leb, inl, inr}
+use Rattle.std.proofs.Common.{◌≡◌, ℕ, zero, suc, ◌+◌, ◌*◌, ◌<◌, ◌≤◌, List, [], ◌∷◌, ◌++◌, length, Some, None, refl, sym, ap, subst, arith, leb, inl, inr}
 use Rattle.std.specs.Prelude.{filter, flat_map}
 use Rattle.std.specs.List.{find, AllByRecursion}
 use Rattle.std.proofs.lemmas.Bool.{cases_Bool, le-leb, lt-leb, leb-true}
@@ -7,6 +7,7 @@ use Rattle.heap_model.specs.declared.Block.{Block}
 use Rattle.heap_model.specs.declared.Kind.{Kind}
 use Rattle.heap_model.specs.declared.Kind.TheVariants as kinds
 use Rattle.heap_model.specs.declared.Run.{Run}
+use Rattle.heap_model.specs.Buckets.{block_count, block_address}
 use Rattle.page_ranges.specs.Words.{runs_of}
 use Rattle.page_ranges.specs.Ranges.{AreRuns}
 use Rattle.page_ranges.proofs.Runs.{runs_le}
@@ -15,7 +16,10 @@ use Rattle.vs_split.specs.Chunks.{Chunks}
 use Rattle.vs_split.specs.Tiles.{IsTiled}
 use Rattle.vs_split.specs.Laws.{IsRow}
 use Rattle.layout_decode.specs.declared.Image.{Image}
-use Rattle.layout_decode.specs.Decode.{decode, head_told, blocks_of, is_at_or_after, IsRunOfChunks, IsReadable}
+use Rattle.layout_decode.specs.Decode.{decode, head_told, blocks_of, blocks_at_bits, is_at_or_after, IsOfBucket, IsReadable}
+use Rattle.layout_decode.proofs.Images.{Each, each}
+use Rattle.layout_decode.proofs.OneRun.{IsReadableRun}
+use Rattle.layout_decode.proofs.SubsegmentLemmas.{none_or_one, seat_of}
 use Rattle.layout_decode.proofs.Rows.{row_blocks, row_le, chunks_are}
 use Rattle.report_text.specs.Report.{block_line}
 use Rattle.report_text.proofs.ReplyLemmas.{put_on, put_all}
@@ -51,20 +55,34 @@ row_ordered v t prev g to (h ∷ hs) row =
     ]
 
 module _ (image : Image) (readable : IsReadable image) (t : IsTiled image.heads) where
-  run_ordered : (r : Run) (k : Kind) → IsRunOfChunks image.heads r k → 0 < r.pages → AreOrdered (4096 * r.first) (4096 * (r.first + r.pages)) (blocks_of image r k)
+  seats_ordered : (r : Run) → IsOfBucket image.limits r → (n i : ℕ) → i + n ≤ block_count r.mark.bucket → AreOrdered (block_address r.mark.bucket r.first i) (4096 * (r.first + r.pages)) (blocks_at_bits image r n i)
+  seats_ordered r h zero i l = tt
+  seats_ordered r h (suc n) i l =
+      let at : ℕ = block_address r.mark.bucket r.first i in
+      let behind : ℕ = block_address r.mark.bucket r.first (suc i) in
+      let end : ℕ = 4096 * (r.first + r.pages) in
+      let left : List Block = blocks_at_bits image r n (suc i) in
+      let s = seat_of image.limits r i h (omega arith) in
+      let rest = seats_ordered r h n (suc i) (omega arith) in
+      elim (none_or_one image r i) [
+        | inl e ↦ rw e (lower at behind end left (omega (arith, s.some)) rest)
+        | inr it ↦ subst (λ (bs : List Block). AreOrdered at end (bs ++ left)) it.1 (omega arith, omega (arith, s.below, s.some), lower (at + 1) behind end left (omega (arith, s.some)) rest)
+      ]
+
+  run_ordered : (r : Run) (k : Kind) → IsReadableRun image r k → 0 < r.pages → AreOrdered (4096 * r.first) (4096 * (r.first + r.pages)) (blocks_of image r k)
   run_ordered r kinds.Header q some = tt
   run_ordered r kinds.Free q some = tt
-  run_ordered r kinds.Lfh q some = tt
+  run_ordered r kinds.Lfh q some = lower (4096 * r.first) (block_address r.mark.bucket r.first 0) (4096 * (r.first + r.pages)) (blocks_of image r kinds.Lfh) (omega arith) (seats_ordered r q.subsegment (block_count r.mark.bucket) 0 (omega arith))
   run_ordered r kinds.Back q some = (omega arith, omega arith, tt)
   run_ordered r kinds.Vs q some =
       let front : ℕ = 256 * r.first + 3 in
       let end : ℕ = 256 * (r.first + r.pages) in
-      let same = chunks_are image.heads t (head_told image) readable.told (256 * r.pages) 0 front end q.0 q.1 (omega arith) in
+      let same = chunks_are image.heads t (head_told image) readable.told (256 * r.pages) 0 front end q.chunks.0 q.chunks.1 (omega arith) in
       let high : 16 * end ≡ 4096 * (r.first + r.pages) = omega arith in
-      let row = lower (4096 * r.first) (16 * front) (16 * end) (row_blocks front q.0) (omega arith) (row_ordered image.heads t 0 front end q.0 q.1) in
+      let row = lower (4096 * r.first) (16 * front) (16 * end) (row_blocks front q.chunks.0) (omega arith) (row_ordered image.heads t 0 front end q.chunks.0 q.chunks.1) in
       subst (λ n. AreOrdered (4096 * r.first) n (blocks_of image r kinds.Vs)) high (subst (λ (bs : List Block). AreOrdered (4096 * r.first) (16 * end) bs) (sym same) row)
 
-  runs_ordered : (words : List ℕ) (from to : ℕ) (rs : List Run) → AreRuns words from to rs → AllByRecursion (λ r. IsRunOfChunks image.heads r r.mark.kind) rs → AreOrdered (4096 * from) (4096 * to) (flat_map (λ r. blocks_of image r r.mark.kind) rs)
+  runs_ordered : (words : List ℕ) (from to : ℕ) (rs : List Run) → AreRuns words from to rs → AllByRecursion (Each image) rs → AreOrdered (4096 * from) (4096 * to) (flat_map (λ r. blocks_of image r r.mark.kind) rs)
   runs_ordered words from to [] a all = tt
   runs_ordered words from to (r ∷ rs) a all =
       let first = subst (λ n. AreOrdered (4096 * n) (4096 * (n + r.pages)) (blocks_of image r r.mark.kind)) a.0 (run_ordered r r.mark.kind all.0 a.1.some) in
@@ -72,7 +90,7 @@ module _ (image : Image) (readable : IsReadable image) (t : IsTiled image.heads)
       append (4096 * from) (4096 * (from + r.pages)) (4096 * to) (blocks_of image r r.mark.kind) (flat_map (λ (x : Run). blocks_of image x x.mark.kind) rs) (omega arith) (omega arith) first (runs_ordered words (from + r.pages) to rs a.2 all.1)
 
   blocks_ordered : AreOrdered 0 (4096 * length image.descs) (decode image)
-  blocks_ordered = runs_ordered image.descs 0 (length image.descs) (runs_of image.descs) readable.whole readable.rows
+  blocks_ordered = runs_ordered image.descs 0 (length image.descs) (runs_of image.descs) readable.whole (each image readable)
 
 -- where all lie at or after two addresses, either gives the same
 all_behind : (low high from other : ℕ) (bs : List Block) → AreOrdered low high bs → from ≤ low → other ≤ low → blocks_from from bs ≡ blocks_from other bs

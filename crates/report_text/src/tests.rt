@@ -1,5 +1,7 @@
 // A report that was worked out by hand.
-ghost use Rattle.std.specs.Prelude.{◌≡◌, ◌*◌, ◌<◌, length, IfOk, IsTrue, List};
+ghost use Rattle.std.specs.Prelude.{◌≡◌, ℕ, ◌+◌, ◌*◌, ◌<◌, ◌≤◌, length, IfOk, IsTrue, List, slice_index};
+ghost use Rattle.claim_rule.specs.Places.{sizes_region, data_region};
+ghost use Rattle.table_words.specs.Told.{AreWords};
 ghost use Rattle.vs_headers.specs.declared.Head.{Head};
 ghost use Rattle.vs_split.specs.Laws.{IsRow};
 ghost use Rattle.layout_decode.specs.Decode.{AreTold, IsReadable};
@@ -13,6 +15,7 @@ use script_text::read_script;
 use std::alloc::Global;
 use std::process::Abort;
 use std::test::Fail;
+use table_words::{Words, bitmap_at, size_at};
 use vs_split::Heads;
 
 /// The key of the heap whose seed is 42.
@@ -41,6 +44,14 @@ const CHUNKS: Mark = Mark {
     unused: 0,
 };
 
+/// The mark of a subsegment of 126 blocks of 32 bytes.
+const SUBSEGMENT: Mark = Mark {
+    kind: Kind::Lfh,
+    bucket: 2,
+    slot: 0,
+    unused: 0,
+};
+
 /// One segment, with chunks on 16 pages behind its header, and a block on the 33 pages behind those. The chunks are a place
 /// of 2 granules, a gap of 3, a place of 5, and a gap.
 fn three_blocks<R: Abort>(rt: &R, alloc: Global) -> Result<Image, OutOfMemory>
@@ -55,12 +66,14 @@ fn three_blocks<R: Abort>(rt: &R, alloc: Global) -> Result<Image, OutOfMemory>
     descs.mark(2, 16, CHUNKS);
     descs.mark(18, 33, BLOCK);
     descs.mark(51, 205, FREE);
+    let words = empty_words(alloc)?;
     let mut image = Image {
         limits: ONE_SEGMENT,
         region,
         descs,
         key: KEY,
         heads,
+        words,
     };
     assert!(rt; could_cut(&mut image, 8240, 2, 0, true));
     assert!(rt; could_cut(&mut image, 8272, 3, 0, false));
@@ -69,7 +82,70 @@ fn three_blocks<R: Abort>(rt: &R, alloc: Global) -> Result<Image, OutOfMemory>
     Ok(image)
 }
 
-/// .. and the pages of the two spans committed.
+/// One segment, with a subsegment on the page behind its header, and a block on the 33 pages behind that.
+fn two_small_blocks<R: Abort>(rt: &R, alloc: Global) -> Result<Image, OutOfMemory>
+    ensures readable { IfOk result (λ image. IsReadable image) }
+    ensures same { IfOk result (λ image. length image.descs ≡ 256 * image.region.segments) }
+{
+    let region = one_committed(alloc)?;
+    let heads = Heads::new(alloc, &ONE_SEGMENT, KEY)?;
+    let mut descs = Descs::new(alloc, &ONE_SEGMENT)?;
+    descs.open_segment(0);
+    descs.mark(2, 1, SUBSEGMENT);
+    descs.mark(3, 33, BLOCK);
+    descs.mark(36, 220, FREE);
+    let words = words_of_two_blocks(alloc)?;
+    assert!(rt; are_small(&words));
+    Ok(Image {
+        limits: ONE_SEGMENT,
+        region,
+        descs,
+        key: KEY,
+        heads,
+        words,
+    })
+}
+
+/// The words of a heap in which no bucket is active.
+fn empty_words(alloc: Global) -> Result<Words, OutOfMemory>
+    ensures { IfOk result (AreWords ONE_SEGMENT) }
+{
+    Words::new(alloc, &ONE_SEGMENT)
+}
+
+/// The words of the subsegment. The bits are those of blocks 0, 5 and 64, and block 5 is in hand: it has no size yet.
+fn words_of_two_blocks(alloc: Global) -> Result<Words, OutOfMemory>
+    ensures { IfOk result (AreWords ONE_SEGMENT) }
+{
+    let mut words = empty_words(alloc)?;
+    store(&mut words, bitmap_at(&ONE_SEGMENT, 2, 0), 0x21);
+    store(&mut words, bitmap_at(&ONE_SEGMENT, 2, 1), 1);
+    store(&mut words, size_at(&ONE_SEGMENT, 516), 33);
+    store(&mut words, size_at(&ONE_SEGMENT, 644), 18);
+    Ok(words)
+}
+
+fn store(words: &mut Words, at: usize, value: u64)
+    requires words { AreWords ONE_SEGMENT words.old }
+    requires at { at < (data_region ONE_SEGMENT).from }
+    ensures { AreWords ONE_SEGMENT words.new }
+{
+    words.set(at, value);
+}
+
+/// Whether no block was asked for more than 32 bytes.
+fn are_small(words: &Words) -> bool
+    requires { AreWords ONE_SEGMENT words.now }
+    ensures { IsTrue result → (k : ℕ) → k < (sizes_region ONE_SEGMENT).words
+        → slice_index words.now ((sizes_region ONE_SEGMENT).from + k) ≤ 33 }
+{
+    let sizes = size_at(&ONE_SEGMENT, 0);
+    words.as_slice()[sizes..sizes + 65_536]
+        .iter()
+        .all(|word| *word <= 33)
+}
+
+/// One segment, with 49 pages behind its header committed.
 fn one_committed(alloc: Global) -> Result<Region, OutOfMemory>
     ensures { IfOk result (λ region. region.segments ≡ 1) }
 {
@@ -90,6 +166,8 @@ fn could_cut(image: &mut Image, addr: u64, units: u16, unused: u8, busy: bool) -
     ensures key { image.new.heads.key ≡ image.new.key }
     ensures descs { image.new.descs ≡ image.old.descs }
     ensures region { image.new.region ≡ image.old.region }
+    ensures limits { image.new.limits ≡ image.old.limits }
+    ensures words { image.new.words ≡ image.old.words }
 {
     let Some(head) = image.heads.chunk_at(addr) else {
         return false;
@@ -129,6 +207,24 @@ fn reports_three_blocks(rt: HostRuntime) -> Result<(), Fail> {
     let text = report(alloc, &script, &answers, &image)?;
     let lines =
         "0 0 alloc 8256\n0 0 alloc 73728\nsegment 0\nvs 2 16\nback 18 33\nfree 51 205 committed 0\nblock 8256 16 vs\nblock 8336 57 vs\nblock 73728 131073 back\nblocks 3 bytes 131146\n";
+    assert!(rt; text.as_bytes() == lines.as_bytes());
+    Ok(())
+}
+
+/// The range of a subsegment, and its blocks in front of one of the back end.
+#[test]
+fn reports_two_small_blocks(rt: HostRuntime) -> Result<(), Fail> {
+    let alloc = rt.alloc();
+    let script = read_script(alloc, b"alloc a 32\nalloc b 131073\n")
+        .ok()
+        .ok_or("script")?;
+    let mut answers = Answers::new(alloc);
+    answers.add_round()?;
+    answers.add_thread(vec![in alloc; Reply::Address(8256), Reply::Address(12_288)]?)?;
+    let image = two_small_blocks(&rt, alloc)?;
+    let text = report(alloc, &script, &answers, &image)?;
+    let lines =
+        "0 0 alloc 8256\n0 0 alloc 12288\nsegment 0\nlfh 2 1 bucket 2 slot 0\nback 3 33\nfree 36 220 committed 15\nblock 8256 32 lfh\nblock 10304 17 lfh\nblock 12288 131073 back\nblocks 3 bytes 131122\n";
     assert!(rt; text.as_bytes() == lines.as_bytes());
     Ok(())
 }

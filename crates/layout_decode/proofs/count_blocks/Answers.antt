@@ -1,7 +1,7 @@
 use Rattle.std.proofs.Common.{length, sym, ap, ◌∙◌, arith}
 use Rattle.heap_model.specs.declared.Block.{Block}
 use Rattle.layout_decode.specs.Decode.{total_of}
-use Rattle.layout_decode.proofs.Images.{next, chunked, none_next, none_beyond, all_from, few_blocks, count_next}
+use Rattle.layout_decode.proofs.Images.{next, run_is, none_next, none_beyond, all_from, few_blocks, count_next}
 use Rattle.layout_decode.proofs.count_blocks.Goals as goal
 
 pub loop-page-init : goal.loop-page-init
@@ -21,7 +21,15 @@ returns-in_default-clause-bytes c =
 
 pub count_in-counted-requires-clause-chunks : goal.count_in-counted-requires-clause-chunks
 count_in-counted-requires-clause-chunks c =
-    chunked c.args.image.now c.requires c.tiled.ensures c.loop-page.page c.in-Some.run' (sym c.next_run.ensures ∙ c.in-Some.is)
+    (run_is c.args.image.now c.requires c.tiled.ensures c.loop-page.page c.in-Some.run' (sym c.next_run.ensures ∙ c.in-Some.is)).chunks
+
+pub count_in-counted-requires-clause-subsegment : goal.count_in-counted-requires-clause-subsegment
+count_in-counted-requires-clause-subsegment c =
+    (run_is c.args.image.now c.requires c.tiled.ensures c.loop-page.page c.in-Some.run' (sym c.next_run.ensures ∙ c.in-Some.is)).subsegment
+
+pub count_in-counted-requires-clause-fit : goal.count_in-counted-requires-clause-fit
+count_in-counted-requires-clause-fit c =
+    (run_is c.args.image.now c.requires c.tiled.ensures c.loop-page.page c.in-Some.run' (sym c.next_run.ensures ∙ c.in-Some.is)).fit
 
 pub count_in-counted-requires-clause-inside : goal.count_in-counted-requires-clause-inside
 count_in-counted-requires-clause-inside c =

@@ -3,7 +3,7 @@ use Rattle.std.specs.List.{find}
 use Rattle.page_ranges.specs.Words.{runs_of}
 use Rattle.page_ranges.specs.Ranges.{begins_from}
 use Rattle.layout_decode.specs.Decode.{is_at_or_after}
-use Rattle.layout_decode.proofs.Images.{next, chunked, none_next, none_beyond, starts_at, none_past, found_here, found_behind}
+use Rattle.layout_decode.proofs.Images.{next, run_is, none_next, none_beyond, starts_at, none_past, found_here, found_behind}
 use Rattle.layout_decode.proofs.next_block.Goals as goal
 
 pub returns-then-at-from : goal.returns-then-at-from
@@ -22,7 +22,11 @@ returns-in_err-run c =
 
 pub next_in-requires-clause-chunks : goal.next_in-requires-clause-chunks
 next_in-requires-clause-chunks c =
-    chunked c.args.image.now c.requires c.tiled.ensures c.loop-page.page c.in_ok-run.run' (sym c.next_run.ensures ∙ c.in_ok-run.was)
+    (run_is c.args.image.now c.requires c.tiled.ensures c.loop-page.page c.in_ok-run.run' (sym c.next_run.ensures ∙ c.in_ok-run.was)).chunks
+
+pub next_in-requires-clause-subsegment : goal.next_in-requires-clause-subsegment
+next_in-requires-clause-subsegment c =
+    (run_is c.args.image.now c.requires c.tiled.ensures c.loop-page.page c.in_ok-run.run' (sym c.next_run.ensures ∙ c.in_ok-run.was)).subsegment
 
 pub next_in-requires-clause-inside : goal.next_in-requires-clause-inside
 next_in-requires-clause-inside c =

@@ -45,5 +45,8 @@ returns c =
         whole = whole_from words (all _) tile;
         rows = rw only (tt, (tt, (tt, (tt, tt))));
         told = tells_nothing v 11400714819323198527 65536 (ap (λ (x : Chunks). x.heads) c.in_ok-heads.ensures);
+        subsegments = rw only (tt, (tt, (tt, (tt, tt))));
+        fits = rw only (tt, (tt, (tt, (tt, tt))));
+        words = c.in_ok-words.ensures;
       };
     }
