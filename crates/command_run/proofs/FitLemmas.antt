@@ -1,6 +1,5 @@
 -- On answers that fit a script, one thread or one round more.
-use Rattle.std.proofs.Common.{◌≡◌, ℕ, zero, suc, ◌+◌, ◌<◌, ◌≤◌, List, [], ◌∷◌, ◌++◌, length, take, map, get_or, refl, sym, ap, ◌∙◌, arith, append_assoc, append-nil}
-use Rattle.std.specs.List.{AllByRecursion}
+use Rattle.std.proofs.Common.{◌≡◌, ℕ, zero, suc, ◌+◌, ◌<◌, List, [], ◌∷◌, ◌++◌, length, take, map, get_or, refl, sym, ap, ◌∙◌, arith, append_assoc, append-nil}
 use Rattle.heap_model.specs.declared.Reply.{Reply}
 use Rattle.script_text.specs.declared.commands.Command.{Command}
 use Rattle.command_run.specs.Commands.{in_threads, in_rounds}
@@ -31,20 +30,3 @@ pub take_mapped : {A B : Type 0} (f : A → B) (xs : List A) (i : ℕ) (d : A) �
 take_mapped f [] i d l = absurd (omega arith)
 take_mapped f (x ∷ xs) zero d l = refl
 take_mapped f (x ∷ xs) (suc i) d l = let e : suc i + 1 ≡ suc (i + 1) = omega arith in rw e (ap (λ ys. f x ∷ ys) (take_mapped f xs i d (omega arith)))
-
-pub take_whole : {A B : Type 0} (f : A → B) (xs : List A) (i : ℕ) → length xs ≤ i → take i (map f xs) ≡ map f xs
-take_whole f [] zero l = refl
-take_whole f [] (suc i) l = refl
-take_whole f (x ∷ xs) zero l = absurd (omega arith)
-take_whole f (x ∷ xs) (suc i) l = ap (λ ys. f x ∷ ys) (take_whole f xs i (omega arith))
-
-pub map_taken : {A B : Type 0} (f : A → B) (xs : List A) (i : ℕ) → map f (take i xs) ≡ take i (map f xs)
-map_taken f [] zero = refl
-map_taken f [] (suc i) = refl
-map_taken f (x ∷ xs) zero = refl
-map_taken f (x ∷ xs) (suc i) = ap (λ ys. f x ∷ ys) (map_taken f xs i)
-
-pub all_at : {A : Type 0} (P : A → Type 0) (xs : List A) (i : ℕ) (d : A) → AllByRecursion P xs → i < length xs → P (get_or xs i d)
-all_at P [] i d a l = absurd (omega arith)
-all_at P (x ∷ xs) zero d a l = a.0
-all_at P (x ∷ xs) (suc i) d a l = all_at P xs i d a.1 (omega arith)

@@ -1,12 +1,13 @@
 // The commands of a script, run one after another on a heap of one caller.
-ghost use Rattle.std.specs.Prelude.{◌≡◌, ◌<◌, ◌≤◌, [], ◌∷◌, ◌++◌, IfOk, length, map, List, ℕ};
+ghost use Rattle.std.specs.Prelude.{◌≡◌, ◌<◌, ◌≤◌, [], ◌∷◌, ◌++◌, IfOk, length, map, false, List, ℕ};
 ghost use Rattle.heap_model.specs.CallState.{Configuration};
+ghost use Rattle.heap_model.specs.declared.Call.TheVariants as calls;
 ghost use Rattle.heap_model.specs.declared.Reply.{Reply};
 ghost use Rattle.heap_now.specs.Standing.{Stands, IsBuilt};
 ghost use Rattle.script_text.specs.Scripts.{commands_of, round_at, command_of};
 ghost use Rattle.command_run.specs.Values.{value_at};
 ghost use Rattle.command_run.specs.Commands.{unassigned, address_of, call_of, assigned, assigned_placed, assigned_moved, in_threads, in_rounds, round_commands, thread_commands};
-ghost use Rattle.command_run.specs.Running.{CanServe, AddUp, Runs, RoundRuns, Fit};
+ghost use Rattle.command_run.specs.Running.{IsServed, AreServed, Runs, RoundRuns, Fit};
 
 use crate::values::Values;
 use heap_model::{Call, Flags, OutOfMemory, Reply};
@@ -17,7 +18,7 @@ use std::alloc::{AllocError, Global};
 
 /// The replies to the commands of a script, round after round and thread after thread.
 pub fn run_rounds(alloc: Global, heap: &mut Solo, script: &Script) -> Result<Answers, OutOfMemory>
-    requires { CanServe heap.old.vs (in_rounds (commands_of script.now)) }
+    requires { AreServed (in_rounds (commands_of script.now)) }
     ensures fit { IfOk result (λ answers. Fit (commands_of script.now) answers) }
     ensures runs { IfOk result (λ answers. (m : Configuration) → Stands heap.old m → (later : List ℕ)
         × Runs heap.old heap.new unassigned (value_at later) (in_rounds (commands_of script.now)) (in_rounds answers) m) }
@@ -41,10 +42,9 @@ fn run_threads(
     answers: &mut Answers,
 ) -> Result<(), OutOfMemory>
     requires round { round < length script.now.rounds }
-    requires served { CanServe heap.old.vs (in_threads (round_commands (round_at script.now round))) }
+    requires served { AreServed (in_threads (round_commands (round_at script.now round))) }
     requires empty { (front : List (List (List Reply))) × (answers.old ≡ front ++ [] ∷ []) }
-    ensures adds { IfOk result (λ _. AddUp heap.old.vs heap.new.vs (in_threads (round_commands (round_at script.now round)))) }
-    ensures runs { IfOk result (λ _. (front : List (List (List Reply))) → answers.old ≡ front ++ [] ∷ []
+    ensures { IfOk result (λ _. (front : List (List (List Reply))) → answers.old ≡ front ++ [] ∷ []
         → RoundRuns front answers.new heap.old heap.new (value_at values.old) (value_at values.new) (round_commands (round_at script.now round))) }
 {
     for thread in 0..script.threads(round) {
@@ -61,8 +61,7 @@ fn run_thread(
     values: &mut Values,
     commands: &[CommandLine],
 ) -> Result<Vec<Reply>, AllocError>
-    requires { CanServe heap.old.vs (thread_commands commands.now) }
-    ensures adds { IfOk result (λ _. AddUp heap.old.vs heap.new.vs (thread_commands commands.now)) }
+    requires { AreServed (thread_commands commands.now) }
     ensures each { IfOk result (λ replies. length replies.items ≡ length (thread_commands commands.now)) }
     ensures runs { IfOk result (λ replies. (m : Configuration) → Stands heap.old m
         → Runs heap.old heap.new (value_at values.old) (value_at values.new) (thread_commands commands.now) replies.items m) }
@@ -77,9 +76,8 @@ fn run_thread(
 
 /// The reply to a command, whose name then has the value that it assigns.
 fn run_command(heap: &mut Solo, values: &mut Values, command: Command) -> Result<Reply, AllocError>
-    requires { CanServe heap.old.vs (command ∷ []) }
-    ensures adds { IfOk result (λ _. AddUp heap.old.vs heap.new.vs (command ∷ [])) }
-    ensures runs { IfOk result (λ reply. (m : Configuration) → Stands heap.old m
+    requires { IsServed command }
+    ensures { IfOk result (λ reply. (m : Configuration) → Stands heap.old m
         → Runs heap.old heap.new (value_at values.old) (value_at values.new) (command ∷ []) (reply ∷ []) m) }
 {
     let call = call_for(values, command);
@@ -113,14 +111,7 @@ fn call_for(values: &Values, command: Command) -> Call
             target,
             n,
             in_place,
-        } => {
-            let addr = address_for(values, target);
-            let flags = Flags {
-                zero: false,
-                in_place,
-            };
-            Call::Realloc { addr, n, flags }
-        }
+        } => realloc_at(address_for(values, target), n, in_place),
         Command::Free { target } => {
             let addr = address_for(values, target);
             Call::Free { addr }
@@ -146,6 +137,16 @@ fn call_for(values: &Values, command: Command) -> Call
         Command::Walk => Call::WalkNext { from: 0 },
         Command::Compact => Call::Compact,
     }
+}
+
+fn realloc_at(addr: u64, n: u64, in_place: bool) -> Call
+    ensures { result ≡ calls.Realloc addr n (record { zero = false; in_place = in_place }) }
+{
+    let flags = Flags {
+        zero: false,
+        in_place,
+    };
+    Call::Realloc { addr, n, flags }
 }
 
 /// Gives the name of a command the value that its reply assigns to it.

@@ -1,5 +1,5 @@
 // The values of names.
-ghost use Rattle.std.specs.Prelude.{◌≡◌, IfOk};
+ghost use Rattle.std.specs.Prelude.{◌≡◌, ℕ, IfOk, OnErr};
 ghost use Rattle.heap_model.specs.State.{updated};
 ghost use Rattle.command_run.specs.Values.{value_at};
 
@@ -42,14 +42,16 @@ impl Values {
 
     /// Gives a name a value. Where there is no memory, each name keeps its own.
     pub fn assign(&mut self, name: u32, value: u64) -> Result<(), AllocError>
-        ensures { IfOk result (λ _. value_at self.new ≡ updated (value_at self.old) name value) }
+        ensures assigned { IfOk result (λ _. value_at self.new ≡ updated (value_at self.old) name value) }
+        ensures refused { OnErr result ((n : ℕ) → value_at self.new n ≡ value_at self.old n) }
     {
         assign_in(&mut self.values, name as usize, value)
     }
 }
 
 fn assign_in(values: &mut Vec<u64>, name: usize, value: u64) -> Result<(), AllocError>
-    ensures { IfOk result (λ _. value_at values.new.items ≡ updated (value_at values.old.items) name value) }
+    ensures assigned { IfOk result (λ _. value_at values.new.items ≡ updated (value_at values.old.items) name value) }
+    ensures refused { OnErr result ((n : ℕ) → value_at values.new.items n ≡ value_at values.old.items n) }
 {
     while values.len() <= name {
         values.push(0)?;

@@ -14,20 +14,21 @@ use Rattle.heap_now.specs.Standing.{LoneHeap, setting_of, Stands, HasHistory}
 use Rattle.heap_now.proofs.Shown.{shows}
 use Rattle.heap_now.proofs.Lives.{lives, readable}
 
-module _ (v h : LoneHeap) (seen : v ≡ h) (sound : IsSound v.kept) (chunks : ShowsChunks v.vs) (region : Held) (words : List ℕ) (key : ℕ) (heads : Chunks)
-    (r : region ≡ v.kept.region) (w : words ≡ v.kept.words) (k : key ≡ key_of v.seed) (g : heads ≡ v.vs.chunks) where
+module _ (v h : LoneHeap) (seen : v ≡ h) (sound : IsSound v.back) (chunks : ShowsChunks v.vs) (region : Held) (descs : List ℕ) (key : ℕ) (heads : Chunks) (words : List ℕ)
+    (r : region ≡ v.back.region) (w : descs ≡ v.back.words) (k : key ≡ key_of v.seed) (g : heads ≡ v.vs.chunks) (f : words ≡ v.lfh.words) where
   abbrev left : Image
-  left = record { limits = v.limits; region = region; descs = words; key = key; heads = heads }
+  left = record { limits = v.limits; region = region; descs = descs; key = key; heads = heads; words = words }
 
   abbrev told : Image
-  told = record { limits = v.limits; region = v.kept.region; descs = v.kept.words; key = key_of v.seed; heads = v.vs.chunks }
+  told = record { limits = v.limits; region = v.back.region; descs = v.back.words; key = key_of v.seed; heads = v.vs.chunks; words = v.lfh.words }
 
   same : left ≡ told
   same =
-      ap (λ (x : Held). record { limits = v.limits; region = x; descs = words; key = key; heads = heads }) r
-      ∙ ap (λ (x : List ℕ). record { limits = v.limits; region = v.kept.region; descs = x; key = key; heads = heads }) w
-      ∙ ap (λ (x : ℕ). record { limits = v.limits; region = v.kept.region; descs = v.kept.words; key = x; heads = heads }) k
-      ∙ ap (λ (x : Chunks). record { limits = v.limits; region = v.kept.region; descs = v.kept.words; key = key_of v.seed; heads = x }) g
+      ap (λ (x : Held). record { limits = v.limits; region = x; descs = descs; key = key; heads = heads; words = words }) r
+      ∙ ap (λ (x : List ℕ). record { limits = v.limits; region = v.back.region; descs = x; key = key; heads = heads; words = words }) w
+      ∙ ap (λ (x : ℕ). record { limits = v.limits; region = v.back.region; descs = v.back.words; key = x; heads = heads; words = words }) k
+      ∙ ap (λ (x : Chunks). record { limits = v.limits; region = v.back.region; descs = v.back.words; key = key_of v.seed; heads = x; words = words }) g
+      ∙ ap (λ (x : List ℕ). record { limits = v.limits; region = v.back.region; descs = v.back.words; key = key_of v.seed; heads = v.vs.chunks; words = x }) f
 
   pub closes : (m : Configuration) → Stands h m → Shows left (setting_of h) m.state
   closes m st =
@@ -38,4 +39,7 @@ module _ (v h : LoneHeap) (seen : v ≡ h) (sound : IsSound v.kept) (chunks : Sh
   tells m st = lives h m st left (closes m st)
 
   pub can_be_read : HasHistory v → IsReadable left
-  can_be_read f = subst IsReadable (sym same) (readable v f.configuration f.stands sound chunks)
+  can_be_read f =
+      let m = f.configuration in
+      let st : Stands h m = subst (λ (x : LoneHeap). Stands x m) seen f.stands in
+      readable h m st left (closes m st)

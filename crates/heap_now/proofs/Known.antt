@@ -1,5 +1,5 @@
 -- What is known of a heap that stands for a configuration to which a legal history leads.
-use Rattle.std.proofs.Common.{◌≡◌, ℕ, ◌*◌, ◌≤◌, Bool, true, false, ◌&&◌, ◌||◌, List, [], ◌∷◌, ◌++◌, map, refl, sym, ap, subst, ◌∙◌, arith, leb, inl, inr}
+use Rattle.std.proofs.Common.{◌≡◌, ℕ, ◌*◌, ◌≤◌, Bool, true, false, ◌&&◌, ◌||◌, List, [], ◌∷◌, ◌++◌, map, Option, refl, sym, ap, subst, ◌∙◌, arith, leb, inl, inr}
 use Rattle.std.specs.Prelude.{count_by}
 use Rattle.std.specs.List.{AllByRecursion, find, list_any}
 use Rattle.std.proofs.Math.Path.{fun_ext}
@@ -9,9 +9,11 @@ use Rattle.heap_model.specs.declared.Entry.{Entry}
 use Rattle.heap_model.specs.declared.Kind.TheVariants as kinds
 use Rattle.heap_model.specs.declared.Kind.{Kind}
 use Rattle.heap_model.specs.declared.Layer.TheVariants as layers
+use Rattle.heap_model.specs.declared.Limits.{Limits}
 use Rattle.heap_model.specs.Geometry.{route_of, is_small, is_variable}
 use Rattle.heap_model.specs.Buckets.{bucket_of}
-use Rattle.heap_model.specs.State.{Setting, IsValidSetting, Span, Place, is_kind, by_address, has_address}
+use Rattle.heap_model.specs.Backend.{back_place}
+use Rattle.heap_model.specs.State.{Setting, IsValidSetting, Area, Span, Place, is_kind, by_address, has_address}
 use Rattle.heap_model.specs.Ranges.{gaps, gaps_of, vs_spans, is_of_kind}
 use Rattle.heap_model.specs.Stay.{for_some, is_live_in}
 use Rattle.heap_model.specs.CallState.{Configuration}
@@ -26,10 +28,17 @@ use Rattle.heap_soundness.proofs.GapRuns.{in_filtered}
 use Rattle.heap_soundness.proofs.ByStart.{all_by_address, AreByStart, by_address_by_start}
 use Rattle.serial_laws.specs.VsCalls as laws
 use Rattle.serial_laws.proofs.Sorted.{any_sorted, found_sorted, removed_sorted}
-use Rattle.vs_layer.specs.Kept.{places_of, part_of, gaps_in, block_at, places_without}
+use Rattle.claim_rule.specs.Shown.{lfh_spans}
+use Rattle.page_ranges.specs.Words.{runs_of}
+use Rattle.backend_fit.specs.Kept.{area_of}
+use Rattle.backend_fit.specs.Sound.{IsSound}
+use Rattle.vs_layer.specs.Kept.{VsKept, places_of, part_of, gaps_in, block_at, places_without}
 use Rattle.heap_now.specs.VsBlocks.{AreOneHeap}
-use Rattle.heap_now.specs.Standing.{LoneHeap, setting_of, IsReached, Stands, IsForVs}
+use Rattle.heap_now.specs.Layers.{AreLayers}
+use Rattle.heap_now.specs.Standing.{LoneHeap, setting_of, IsReached, front_of, Stands}
 use Rattle.heap_now.proofs.ByPlace.{gaps_sorted, count_sorted, IsVsPlace, one_address}
+use Rattle.heap_now.proofs.NextSegment.{AreBelow}
+use Rattle.heap_now.proofs.Goes.{spans_below}
 
 ---- Legal histories, acts of caller 0 behind them
 
@@ -75,6 +84,10 @@ vs_route n l = elim (cases_Bool (leb n 16368)) [
   | inl e ↦ rw e refl
   | inr e ↦ let f = le-leb n 131072 l in rw (e, f) refl
 ]
+
+-- the bucket of n bytes, if there is one, is neither active nor due
+abbrev pub IsForVs : VsKept → ℕ → Type 0
+IsForVs vs n = for_some (bucket_of n) (goes_to_lfh (part_of vs)) ≡ false
 
 ---- The layer
 
@@ -141,9 +154,29 @@ module _ (h : LoneHeap) (m : Configuration) (st : Stands h m) where
       }
 
   -- the two layers fit together
-  pub one_heap : AreOneHeap h.kept h.vs
+  pub one_heap : AreOneHeap h.back h.vs
   one_heap = record {
     spans = ap vs_spans (sym st.area) ∙ st.vs_spans_are;
     granules = st.granules ∙ ap (λ (k : ℕ). 65536 * k) (sym st.segments);
     inside = subst (AreAt (IsInVs h.vs.spans)) st.vs_places inside_here;
   }
+
+  -- .. and so do all
+  pub all_layers : AreLayers h.back h.vs h.lfh
+  all_layers = record {
+    vs_is = one_heap;
+    lfh_is = record { part = front_of m; stands = record { stands = st.front; spans = ap lfh_spans st.area }; segments = st.segments ∙ ap (λ (l : Limits). l.segments) (sym st.front_limits) };
+  }
+
+  ---- Its area
+
+  -- where the back end has a range, the configuration has it
+  pub same_range : (pages : ℕ) (o : Option ℕ) → back_place (area_of h.back) h.back.region.segments pages ≡ o → back_place m.state.back.area h.limits.segments pages ≡ o
+  same_range pages o e =
+      ap (λ (a : Area). back_place a h.limits.segments pages) st.area ∙ ap (λ (q : ℕ). back_place (area_of h.back) q pages) (sym st.segments) ∙ e
+
+  -- each span lies in a reserved segment
+  pub all_below : IsSound h.back → AreBelow m.state.back.area.reserved m.state.back.area.spans
+  all_below sound =
+      subst (λ (a : Area). AreBelow a.reserved a.spans) (sym st.area)
+      (spans_below h.back.words h.back.region.reserved 0 _ (runs_of h.back.words) sound.whole sound.used)

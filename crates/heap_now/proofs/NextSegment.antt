@@ -15,10 +15,6 @@ abbrev BeginsBehind : ℕ → List Run → Type 0
 BeginsBehind n [] = Unit {0}
 BeginsBehind n (r ∷ rs) = n < r.first
 
-behind_more : (m n : ℕ) (rs : List Run) → m ≤ n → BeginsBehind n rs → BeginsBehind m rs
-behind_more m n [] l h = tt
-behind_more m n (r ∷ rs) l h = omega arith
-
 joined_behind : (m n : ℕ) (rs : List Run) → m < n → BeginsBehind m (joined n rs)
 joined_behind m n [] l = l
 joined_behind m n (r ∷ rs) l = elim (cases_Bool (eqb r.first (suc n))) [ inl e ↦ rw e l | inr e ↦ rw e l ]

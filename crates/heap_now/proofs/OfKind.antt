@@ -4,8 +4,8 @@ use Rattle.std.specs.Prelude.{filter}
 use Rattle.std.specs.List.{AllByRecursion, find}
 use Rattle.std.proofs.lemmas.Bool.{cases_Bool, lt-ltb, ltb-true}
 use Rattle.heap_model.specs.declared.Run.{Run}
-use Rattle.heap_model.specs.State.{Span, insert_span, remove_found}
-use Rattle.heap_soundness.specs.Sound.{AreInOrder}
+use Rattle.heap_model.specs.State.{Span, remove_found}
+use Rattle.heap_model.proofs.ListLemmas.{filter-remove_found}
 use Rattle.page_ranges.specs.Spans.{span_of, AreRising}
 use Rattle.backend_fit.specs.Kept.{insert_run}
 use Rattle.vs_layer.specs.Effects.{LieApart}
@@ -28,19 +28,7 @@ removed_of t u (y ∷ ys) x f h = elim (cases_Bool (u y)) [
 ]
 
 pub removed_other : {A : Type 0} (t u : A → Bool) (xs : List A) (x : A) → find u xs ≡ Some x → t x ≡ false → filter t (remove_found u xs) ≡ filter t xs
-removed_other t u [] x f h = absurd (let z : ⊥ = cc in z)
-removed_other t u (y ∷ ys) x f h = elim (cases_Bool (u y)) [
-  | inl e ↦
-      let is : Some y ≡ Some x = rw e at f in
-      let same : t y ≡ false = ap t (let k : y ≡ x = cc in k) ∙ h in
-      rw (e, same) refl
-  | inr e ↦
-      let again = removed_other t u ys x (rw e at f) h in
-      elim (cases_Bool (t y)) [
-        | inl g ↦ rw (e, g) (ap (λ zs. y ∷ zs) again)
-        | inr g ↦ rw (e, g) again
-      ]
-]
+removed_other t u xs x f h = filter-remove_found t u xs (λ y g. let is : Some x ≡ Some y = sym f ∙ g in ap t (let same : y ≡ x = cc in same) ∙ h)
 
 -- what passes both tests is found among those that pass one
 pub found_of : {A : Type 0} (t u : A → Bool) (xs : List A) → ((x : A) → u x ≡ true → t x ≡ true) → find u (filter t xs) ≡ find u xs
@@ -130,54 +118,6 @@ run_apart r from (q ∷ qs) a = go (run_apart r (q.first + q.pages) qs) (ltb r.f
     go again false e a =
         let k : AreRising from (q ∷ insert_run r qs) = rw e at a in
         (inl (front_of r (q.first + q.pages) qs k.2), again k.2)
-
----- One span more
-
-span_in_front : (x : Span) (from : ℕ) (xs : List Span) → x.first < from → AreInOrder from xs → insert_span x xs ≡ x ∷ xs
-span_in_front x from [] l a = refl
-span_in_front x from (y ∷ ys) l a = let e = lt-ltb x.first y.first (omega (arith, l, a.0)) in rw e refl
-
-pub filter_in_order : (t : Span → Bool) (from : ℕ) (xs : List Span) → AreInOrder from xs → AreInOrder from (filter t xs)
-filter_in_order t from [] a = tt
-filter_in_order t from (x ∷ xs) a = elim (cases_Bool (t x)) [
-  | inl e ↦ rw e (a.0, a.1, filter_in_order t (x.first + x.pages) xs a.2)
-  | inr e ↦ rw e (filter_in_order t from xs (lower from (x.first + x.pages) xs (omega (arith, a.0)) a.2))
-]
-  where
-    lower : (low from : ℕ) (xs : List Span) → low ≤ from → AreInOrder from xs → AreInOrder low xs
-    lower low from [] l a = tt
-    lower low from (x ∷ xs) l a = (omega (arith, a.0), a.1, a.2)
-
-pub span_of_kind : (t : Span → Bool) (x : Span) (from : ℕ) (xs : List Span) → AreInOrder from xs → t x ≡ true → filter t (insert_span x xs) ≡ insert_span x (filter t xs)
-span_of_kind t x from [] a h = rw h refl
-span_of_kind t x from (y ∷ ys) a h = elim (cases_Bool (ltb x.first y.first)) [
-  | inl e ↦
-      let l = ltb-true x.first y.first e in
-      elim (cases_Bool (t y)) [
-        | inl g ↦ rw (e, h, g) (rw e refl)
-        | inr g ↦
-            let front = span_in_front x (y.first + y.pages) (filter t ys) (omega (arith, l, a.1)) (filter_in_order t (y.first + y.pages) ys a.2) in
-            rw (e, h, g) (sym front)
-      ]
-  | inr e ↦
-      let again = span_of_kind t x (y.first + y.pages) ys a.2 h in
-      elim (cases_Bool (t y)) [
-        | inl g ↦ rw (e, g) (rw e (ap (λ (zs : List Span). y ∷ zs) again))
-        | inr g ↦ rw (e, g) again
-      ]
-]
-
-pub span_of_other : (t : Span → Bool) (x : Span) (xs : List Span) → t x ≡ false → filter t (insert_span x xs) ≡ filter t xs
-span_of_other t x [] h = rw h refl
-span_of_other t x (y ∷ ys) h = elim (cases_Bool (ltb x.first y.first)) [
-  | inl e ↦ rw (e, h) refl
-  | inr e ↦
-      let again = span_of_other t x ys h in
-      elim (cases_Bool (t y)) [
-        | inl g ↦ rw (e, g) (ap (λ (zs : List Span). y ∷ zs) again)
-        | inr g ↦ rw (e, g) again
-      ]
-]
 
 -- a run that lies apart from others lies apart from the spans of a kind among them
 pub spans_apart : (t : Span → Bool) (first pages : ℕ) (rs : List Run) → AllByRecursion (λ (q : Run). (q.first + q.pages ≤ first) ⊎ (first + pages ≤ q.first)) rs → AllByRecursion (LieApart first pages) (filter t (map span_of rs))

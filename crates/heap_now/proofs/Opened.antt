@@ -2,7 +2,7 @@
 use Rattle.std.proofs.Common.{◌≡◌, ℕ, ◌+◌, ◌-◌, ◌*◌, ◌/◌, ◌%◌, ◌<◌, ◌≤◌, true, List, [], ◌∷◌, length, Some, None, Option, refl, sym, ap, subst, arith, ltb, inl, inr}
 use Rattle.std.specs.Prelude.{is_some, option_and_then}
 use Rattle.std.specs.List.{AllByRecursion}
-use Rattle.std.proofs.lemmas.Bool.{cases_Bool, cases_lt, and_parts, leb-true}
+use Rattle.std.proofs.lemmas.Bool.{cases_lt, and_parts, leb-true}
 use Rattle.heap_model.specs.declared.Kind.TheVariants as kinds
 use Rattle.heap_model.specs.declared.Run.{Run}
 use Rattle.heap_model.specs.State.{Place, live_size, has_address}
@@ -26,11 +26,7 @@ use Rattle.vs_layer.specs.Effects.{LieApart, HasDropped}
 use Rattle.heap_now.specs.VsBlocks.{AreOneHeap, vs_run}
 use Rattle.heap_now.proofs.OfKind.{run_apart, spans_apart}
 use Rattle.heap_now.proofs.StandVsFree.{found_chunk}
-
--- a run that was put among others is one of them
-put_in : (r : Run) (rs : List Run) → IsOneOf r (insert_run r rs)
-put_in r [] = inl refl
-put_in r (q ∷ qs) = elim (cases_Bool (ltb r.first q.first)) [ inl e ↦ rw e (inl refl) | inr e ↦ rw e (inr (put_in r qs)) ]
+use Rattle.lfh_claims.proofs.Made.{made_run}
 
 ends_inside : (words : List ℕ) (from to : ℕ) (rs : List Run) (r : Run) → AreRuns words from to rs → IsOneOf r rs → r.first + r.pages ≤ to
 ends_inside words from to [] r a i = absurd i
@@ -53,7 +49,7 @@ one_segment_of reserved first pages few u = elim (cases_lt 256 (first % 256 + pa
 
 module _ (old new : Kept) (first pages : ℕ) (sound : IsSound new) (runs : taken_in new.words ≡ insert_run (vs_run first pages) (taken_in old.words)) where
   there : IsOneOf (vs_run first pages) (runs_of new.words)
-  there = (filtered_cases (λ q. is_of_span q.mark.kind) (vs_run first pages) (runs_of new.words) (subst (IsOneOf (vs_run first pages)) (sym runs) (put_in (vs_run first pages) (taken_in old.words)))).0
+  there = (filtered_cases (λ q. is_of_span q.mark.kind) (vs_run first pages) (runs_of new.words) (subst (IsOneOf (vs_run first pages)) (sym runs) (made_run (vs_run first pages) (taken_in old.words)))).0
 
   used : (k : ℕ) → k < pages → is_usable_in new.region.reserved (first + k) ≡ true
   used k l = all_at (IsUsed new.region.reserved) (vs_run first pages) (runs_of new.words) sound.used there k l

@@ -1,19 +1,21 @@
 -- The image of a heap shows the state that the heap stands for.
-use Rattle.std.proofs.Common.{◌≡◌, ℕ, ◌+◌, ◌-◌, ◌*◌, ◌<◌, true, false, List, [], ◌∷◌, map, Option, Some, refl, sym, ap, ◌∙◌, arith, inl, inr}
-use Rattle.std.specs.Prelude.{option_and_then, option_map, unwrap_or}
-use Rattle.std.specs.List.{AllByRecursion, find}
+use Rattle.std.proofs.Common.{◌≡◌, ℕ, ◌+◌, ◌-◌, ◌*◌, ◌<◌, ◌≤◌, true, false, List, [], ◌∷◌, map, Option, Some, None, refl, sym, ap, subst, ◌∙◌, arith, inl, inr}
+use Rattle.std.specs.Prelude.{option_and_then, option_map, unwrap_or, slice_index}
+use Rattle.std.specs.List.{AllByRecursion, find, list_any}
 use Rattle.std.specs.Option.{option_map_or, option_or}
-use Rattle.std.proofs.lemmas.Bool.{cases_Bool, eq-eqb, ne_eqb}
+use Rattle.std.proofs.lemmas.Bool.{cases_Bool, or_left, eq-eqb, ne_eqb}
 use Rattle.heap_model.specs.declared.Kind.{Kind}
 use Rattle.heap_model.specs.declared.Kind.TheVariants as kinds
+use Rattle.heap_model.specs.declared.Limits.{Limits}
 use Rattle.heap_model.specs.declared.Run.{Run}
 use Rattle.heap_model.specs.Runs as model
 use Rattle.heap_model.specs.State.{Area, Span, Place, is_kind, live_size}
 use Rattle.heap_model.specs.Backend.{free_runs}
 use Rattle.heap_model.specs.Ranges.{gaps_of, vs_spans}
 use Rattle.heap_model.specs.CallState.{Configuration}
+use Rattle.heap_model.specs.Search.{begins_at, first_of, hint_or, spans_of}
 use Rattle.heap_soundness.specs.Sound.{IsOneOf}
-use Rattle.heap_soundness.proofs.Lists.{all_at, all_from}
+use Rattle.heap_soundness.proofs.Lists.{all_at, all_from, any_in}
 use Rattle.heap_soundness.proofs.GapRuns.{in_filtered}
 use Rattle.serial_laws.proofs.Sorted.{found_sorted}
 use Rattle.page_ranges.specs.Words.{runs_of}
@@ -29,14 +31,16 @@ use Rattle.vs_split.specs.Chunks.{head_at}
 use Rattle.vs_split.specs.Shown.{place_from, place_to, gap_from, gap_to, place_head, gap_head, head_shown}
 use Rattle.vs_layer.specs.Kept.{places_of}
 use Rattle.vs_layer.specs.Effects.{ShowsChunks}
-use Rattle.layout_decode.specs.Shows.{Shows, run_of_span, unused_in}
+use Rattle.lfh_claims.specs.Kept.{spans_for}
+use Rattle.layout_decode.specs.Shows.{Shows, ShowsFront, IsHintOf, run_of_span, unused_in}
 use Rattle.heap_now.specs.Blocks.{is_block_run, block_runs, is_block_at}
-use Rattle.heap_now.specs.Standing.{LoneHeap, setting_of, IsBlockRun, Stands}
+use Rattle.heap_now.specs.Standing.{LoneHeap, setting_of, IsBlockRun, front_of, Stands}
 use Rattle.heap_now.proofs.ByPlace.{gaps_sorted, one_start, one_end}
 use Rattle.heap_now.proofs.OfKind.{filter_rising}
 use Rattle.heap_now.proofs.Rising.{is_at}
 use Rattle.heap_now.proofs.Known.{vs_known, vs_by_start}
 use Rattle.heap_now.proofs.StandFree.{place_found}
+use Rattle.heap_now.proofs.StandSearch.{subsegments_are}
 
 ---- Runs
 
@@ -86,18 +90,46 @@ shown_by g units o gs = option_or (option_map (place_head units) o) (option_map 
 abbrev units_by : ℕ → Option Place → List model.Run → ℕ
 units_by g o gs = unwrap_or (option_or (option_map (λ (p : Place). p.granules) o) (option_map (λ (r : model.Run). r.count) (find (gap_to g) gs))) 0
 
-module _ (h : LoneHeap) (m : Configuration) (st : Stands h m) (sound : IsSound h.kept) (chunks : ShowsChunks h.vs) where
+---- The words of the front end
+
+hint_from : (xs : List Span) (o : Option ℕ) → ((first : ℕ) → o ≡ Some first → (x : Span) × IsOneOf x xs × (x.first ≡ first)) → IsHintOf xs (unwrap_or (hint_or o (first_of xs)) 0)
+hint_from [] None f = refl
+hint_from [] (Some first) f = absurd (f first refl).1
+hint_from (x ∷ xs) None f = or_left (begins_at x.first x) (list_any (begins_at x.first) xs) (eq-eqb x.first x.first refl)
+hint_from (x ∷ xs) (Some first) f = let r = f first refl in any_in (begins_at first) (x ∷ xs) r.0 r.1 (eq-eqb r.0.first first r.2)
+
+module _ (h : LoneHeap) (m : Configuration) (st : Stands h m) where
+  hint_shown : (b slot : ℕ) → 1 ≤ b → b ≤ 128 → slot < 16 → IsHintOf (spans_of m.state.back.area b slot) (slice_index h.lfh.words (134 + 16 * (b - 1) + slot))
+  hint_shown b slot low high few =
+      let word = st.front.shown b slot low high few in
+      subst (λ (xs : List Span). IsHintOf xs (slice_index h.lfh.words (134 + 16 * (b - 1) + slot))) (subsegments_are m.state.back.area b slot)
+      (subst (IsHintOf (spans_for (front_of m) b slot)) (sym word) (hint_from (spans_for (front_of m) b slot) (m.now.span_history.hints b slot) (st.front.hinted b slot)))
+
+  -- they show it by the limits that they have, which are those of the heap
+  front_shown : ShowsFront h.limits h.lfh.words m.state
+  front_shown = subst (λ (l : Limits). ShowsFront l h.lfh.words m.state) st.front_limits (record {
+    words_are = record { limits = st.front.limits; as_long = st.front.as_long };
+    active = st.front.active;
+    hints = hint_shown;
+    tags = st.front.tags;
+    bitmaps = st.front.bitmaps;
+    sizes = st.front.sizes;
+  })
+
+---- The image
+
+module _ (h : LoneHeap) (m : Configuration) (st : Stands h m) (sound : IsSound h.back) (chunks : ShowsChunks h.vs) where
   abbrev blocks : List Run
-  blocks = block_runs h.kept.words
+  blocks = block_runs h.back.words
 
   found : AllByRecursion (IsFoundIn blocks) blocks
-  found = all_found 0 blocks (filter_rising is_block_run 0 (taken_in h.kept.words) (taken_rise h.kept.words sound.whole)) st.blocks
+  found = all_found 0 blocks (filter_rising is_block_run 0 (taken_in h.back.words) (taken_rise h.back.words sound.whole)) st.blocks
 
   -- the run of a span, from the span and the places
-  run_is : (r : Run) → IsOneOf r (taken_in h.kept.words) → IsMark r.mark → run_of_span m.state.back.places (span_of r) ≡ r
+  run_is : (r : Run) → IsOneOf r (taken_in h.back.words) → IsMark r.mark → run_of_span m.state.back.places (span_of r) ≡ r
   run_is r i mark = ap (λ (u : ℕ). record { first = r.first; pages = r.pages; mark = record { kind = r.mark.kind; bucket = r.mark.bucket; slot = r.mark.slot; unused = u } }) (elim (cases_Bool (is_block_run r)) [
     | inl e ↦
-        let j = in_filtered is_block_run r (taken_in h.kept.words) e i in
+        let j = in_filtered is_block_run r (taken_in h.back.words) e i in
         let b = all_at IsBlockRun r blocks st.blocks j in
         let place = place_found h m st sound (4096 * r.first) r (all_at (IsFoundIn blocks) r blocks found j) in
         let size : 4096 * r.pages - (4096 * r.pages - r.mark.unused) ≡ r.mark.unused = omega (arith, b.unused) in
@@ -107,7 +139,7 @@ module _ (h : LoneHeap) (m : Configuration) (st : Stands h m) (sound : IsSound h
     | inr e ↦ none_unused m.state.back.places (span_of r) r.mark.kind e ∙ sym (mark.of_back e)
   ])
 
-  runs_are : (rs : List Run) → AllByRecursion (λ r. IsOneOf r (taken_in h.kept.words)) rs → AllByRecursion (λ (r : Run). IsMark r.mark) rs → rs ≡ map (run_of_span m.state.back.places) (map span_of rs)
+  runs_are : (rs : List Run) → AllByRecursion (λ r. IsOneOf r (taken_in h.back.words)) rs → AllByRecursion (λ (r : Run). IsMark r.mark) rs → rs ≡ map (run_of_span m.state.back.places) (map span_of rs)
   runs_are [] i k = refl
   runs_are (r ∷ rs) i k = let here = run_is r i.0 k.0 in let rest = runs_are rs i.1 k.1 in ap (λ (q : Run). q ∷ rs) (sym here) ∙ ap (λ (qs : List Run). run_of_span m.state.back.places (span_of r) ∷ qs) rest
 
@@ -123,7 +155,7 @@ module _ (h : LoneHeap) (m : Configuration) (st : Stands h m) (sound : IsSound h
       ∙ ap (λ (o : Option Place). shown_by g (units_by g o (gaps_of h.vs.spans qs)) (find (place_from g) ps) (gaps_of h.vs.spans qs)) to
       ∙ ap (λ (gs : List model.Run). shown_by g (units_by g (find (place_to g) ps) gs) (find (place_from g) ps) gs) gaps
 
-  pub shows : Shows (record { limits = h.limits; region = h.kept.region; descs = h.kept.words; key = key_of h.seed; heads = h.vs.chunks }) (setting_of h) m.state
+  pub shows : Shows (record { limits = h.limits; region = h.back.region; descs = h.back.words; key = key_of h.seed; heads = h.vs.chunks; words = h.lfh.words }) (setting_of h) m.state
   shows = record {
     limits = refl;
     key = refl;
@@ -131,10 +163,12 @@ module _ (h : LoneHeap) (m : Configuration) (st : Stands h m) (sound : IsSound h
     committed = ap (λ (a : Area). a.committed) (sym st.area);
     whole = sound.whole;
     spans =
-        runs_are (taken_in h.kept.words) (all_from (λ r. IsOneOf r (taken_in h.kept.words)) (taken_in h.kept.words) (λ r i. i)) (marks_are h.kept.words 0 _ (runs_of h.kept.words) sound.whole)
+        runs_are (taken_in h.back.words) (all_from (λ r. IsOneOf r (taken_in h.back.words)) (taken_in h.back.words) (λ r i. i)) (marks_are h.back.words 0 _ (runs_of h.back.words) sound.whole)
         ∙ ap (λ (a : Area). map (run_of_span m.state.back.places) a.spans) (sym st.area);
-    free = sym (frees_of h.kept sound) ∙ ap (λ (a : Area). free_runs a) (sym st.area);
+    free = sym (frees_of h.back sound) ∙ ap (λ (a : Area). free_runs a) (sym st.area);
+    marks = heads_shown;
     headers = λ g.
         ap (λ (o : Option Head). option_map_or (λ (x : Head). encoded x h.vs.chunks.key (16 * g)) o 0) (heads_shown g)
         ∙ ap (λ (key : ℕ). option_map_or (λ (x : Head). encoded x key (16 * g)) (head_shown (vs_spans m.state.back.area) m.state.vs.places g) 0) st.key;
+    front = front_shown h m st;
   }

@@ -13,10 +13,12 @@ use Rattle.heap_model.specs.State.{Area, Place, is_kind, is_live, has_address, i
 use Rattle.heap_model.specs.Ranges.{vs_spans, is_of_kind}
 use Rattle.heap_model.specs.CallState.{Configuration}
 use Rattle.heap_model.specs.Search.{begins_at, span_at}
-use Rattle.heap_model.specs.Legal.{lies_in, has_place, are_used, has_live}
+use Rattle.heap_model.specs.Legal.{lies_in, has_place, are_used, has_live, forget_hint}
+use Rattle.heap_soundness.proofs.Lists.{found_in}
 use Rattle.serial_laws.specs.BackCalls.{live_place, area_without, places_without, IsNotLive}
 use Rattle.serial_laws.proofs.Free.{frees, sizes, not_live}
 use Rattle.serial_laws.proofs.Sorted.{OnlyOne, any_sorted, found_sorted, removed_sorted}
+use Rattle.claim_rule.specs.Shown.{lfh_spans}
 use Rattle.page_ranges.specs.Spans.{span_of, AreRising}
 use Rattle.page_ranges.proofs.Blocks.{taken_rise}
 use Rattle.backend_fit.specs.Kept.{Kept, area_of, taken_in, starts_at}
@@ -28,7 +30,7 @@ use Rattle.heap_now.specs.Standing.{LoneHeap, setting_of, place_of, IsBlockRun, 
 use Rattle.heap_now.proofs.OfKind.{removed_of, removed_other, found_of, filter_rising}
 use Rattle.heap_now.proofs.Rising.{found_addr, found_block, only_one, found_place, any_place, removed_place, no_other, all_used, blocks_removed, start_found, span_found}
 use Rattle.heap_now.proofs.Known.{vs_found}
-use Rattle.heap_now.proofs.StandAfter.{back_serves, still_serves}
+use Rattle.heap_now.proofs.StandAfter.{hints_of, hints_left, back_serves, still_serves}
 
 -- the tests of places that are of their address
 address_test : (addr : ℕ) (r : Run) → has_address addr (place_of r) ≡ eqb (4096 * r.first) addr
@@ -44,25 +46,25 @@ block_at_is addr r h = elim (cases_Bool (is_block_run r)) [
 ]
 
 -- where no place has an address, none lives there
-none_live : (ps : List Place) (addr : ℕ) → find (has_address addr) ps ≡ None → has_live ps addr ≡ false
+pub none_live : (ps : List Place) (addr : ℕ) → find (has_address addr) ps ≡ None → has_live ps addr ≡ false
 none_live [] addr f = refl
 none_live (p ∷ ps) addr f = elim (cases_Bool (has_address addr p)) [
   | inl e ↦ let z : Some p ≡ None = rw e at f in absurd (let y : ⊥ = cc in y)
   | inr e ↦ let t : is_live_at addr p ≡ false = and_left (has_address addr p) (is_live p.status) e in rw t (none_live ps addr (rw e at f))
 ]
 
-other_kind : (k : Kind) → k ≡ kinds.Back → is_kind k kinds.Vs ≡ false
-other_kind k e = ap (λ (x : Kind). is_kind x kinds.Vs) e
+other_kind : (k other : Kind) → k ≡ kinds.Back → is_kind kinds.Back other ≡ false → is_kind k other ≡ false
+other_kind k other e n = ap (λ (x : Kind). is_kind x other) e ∙ n
 
-module _ (h : LoneHeap) (m : Configuration) (st : Stands h m) (sound : IsSound h.kept) where
+module _ (h : LoneHeap) (m : Configuration) (st : Stands h m) (sound : IsSound h.back) where
   abbrev runs : List Run
-  runs = taken_in h.kept.words
+  runs = taken_in h.back.words
 
   abbrev blocks : List Run
-  blocks = block_runs h.kept.words
+  blocks = block_runs h.back.words
 
   rising : AreRising 0 runs
-  rising = taken_rise h.kept.words sound.whole
+  rising = taken_rise h.back.words sound.whole
 
   blocks_rise : AreRising 0 blocks
   blocks_rise = filter_rising is_block_run 0 runs rising
@@ -89,13 +91,13 @@ module _ (h : LoneHeap) (m : Configuration) (st : Stands h m) (sound : IsSound h
       ∙ removed_place (is_live_at addr) addr (live_test addr) r.first blocks (sym (found_addr addr blocks r f))
 
   -- no live place has an address where no block begins
-  none_lives : (addr : ℕ) → block_at h.vs addr ≡ None → find (is_block_at addr) runs ≡ None → IsNotLive m.state addr
-  none_lives addr v f =
+  none_lives : (addr : ℕ) → has_live m.state.lfh addr ≡ false → block_at h.vs addr ≡ None → find (is_block_at addr) runs ≡ None → IsNotLive m.state addr
+  none_lives addr u v f =
       let back : has_live m.state.back.places addr ≡ false =
       sym (any_sorted (is_live_at addr) m.state.back.places) ∙ ap (list_any (is_live_at addr)) st.places ∙ any_place (is_live_at addr) addr (live_test addr) blocks st.blocks (found_there addr ∙ f) in
-      (ap (λ (ps : List Place). has_live ps addr) st.lfh, none_live m.state.vs.places addr (vs_found h m st addr ∙ v), back, ap (λ (ps : List Place). has_live ps addr) st.large)
+      (u, none_live m.state.vs.places addr (vs_found h m st addr ∙ v), back, ap (λ (ps : List Place). has_live ps addr) st.large)
 
-  free_serves : (new : Kept) (addr : ℕ) (r : Run) → IsGivenBack h.kept new addr r → Serves h (record h { kept = new }) m (calls.Free addr) replies.Done
+  free_serves : (new : Kept) (addr : ℕ) (r : Run) → IsGivenBack h.back new addr r → Serves h (record h { back = new }) m (calls.Free addr) replies.Done
   free_serves new addr r g =
       let f = found_there addr ∙ g.found in
       let at = found_addr addr blocks r f in
@@ -117,9 +119,12 @@ module _ (h : LoneHeap) (m : Configuration) (st : Stands h m) (sound : IsSound h
       rw rest_spans (all_used (places_without m.state.back.places addr) (remove_found (starts_at r.first) runs)
       (λ test k. sym (any_sorted test (places_without m.state.back.places addr)) ∙ ap (list_any test) places_left ∙ k)) in
       let e = frees (setting_of h) m addr (256 * r.pages) (block_size r) (span_of r) st.limits.some_callers st.at_rest place spanned block.kind unused used in
-      let gone : area_without m.state.back.area addr ≡ area_of new = ap (λ (a : Area). area_without a addr) st.area ∙ ap (λ (p : ℕ). record { reserved = h.kept.region.reserved; committed = (area_of h.kept).committed; spans = remove_found (begins_at p) (area_of h.kept).spans }) page ∙ sym g.area in
-      let vs : vs_spans (area_without m.state.back.area addr) ≡ h.vs.spans = removed_other (is_of_kind kinds.Vs) (begins_at (addr / 4096)) m.state.back.area.spans (span_of r) spanned (other_kind r.mark.kind block.kind) ∙ st.vs_spans_are in
-      back_serves h m st new (calls.Free addr) replies.Done (area_without m.state.back.area addr) (places_without m.state.back.places addr) e gone vs
+      let gone : area_without m.state.back.area addr ≡ area_of new = ap (λ (a : Area). area_without a addr) st.area ∙ ap (λ (p : ℕ). record { reserved = h.back.region.reserved; committed = (area_of h.back).committed; spans = remove_found (begins_at p) (area_of h.back).spans }) page ∙ sym g.area in
+      let vs : vs_spans (area_without m.state.back.area addr) ≡ h.vs.spans = removed_other (is_of_kind kinds.Vs) (begins_at (addr / 4096)) m.state.back.area.spans (span_of r) spanned (other_kind r.mark.kind kinds.Vs block.kind refl) ∙ st.vs_spans_are in
+      let lfh : lfh_spans (area_without m.state.back.area addr) ≡ lfh_spans m.state.back.area = removed_other (is_of_kind kinds.Lfh) (begins_at (addr / 4096)) m.state.back.area.spans (span_of r) spanned (other_kind r.mark.kind kinds.Lfh block.kind refl) in
+      let among = found_in (begins_at (addr / 4096)) m.state.back.area.spans (span_of r) spanned in
+      let left : forget_hint (addr / 4096) (hints_of m) ≡ hints_of m = ap (λ (p : ℕ). forget_hint p (hints_of m)) page ∙ hints_left h m st (span_of r) among (other_kind r.mark.kind kinds.Lfh block.kind refl) in
+      back_serves h m st new (calls.Free addr) replies.Done (area_without m.state.back.area addr) (places_without m.state.back.places addr) (forget_hint (addr / 4096) (hints_of m)) e gone vs lfh left
       (less ∙ ap (map place_of) (sym fewer)) (subst (AllByRecursion IsBlockRun) (sym fewer) (blocks_removed r.first blocks st.blocks)) g.segments
     where
       kind_is : (k : Kind) → k ≡ kinds.Back → is_kind k kinds.Back ≡ true
@@ -132,20 +137,20 @@ module _ (h : LoneHeap) (m : Configuration) (st : Stands h m) (sound : IsSound h
       let e = sizes (setting_of h) m addr (256 * r.pages) size st.limits.some_callers st.at_rest (place ∙ ap (λ (n : ℕ). Some (live_place addr (256 * r.pages) n)) (sym s)) in
       still_serves h m st (calls.Size addr) (replies.Number size) e
 
-  free_none : (addr : ℕ) → block_at h.vs addr ≡ None → find (is_block_at addr) runs ≡ None → Serves h h m (calls.Free addr) replies.NotLive
-  free_none addr v f = still_serves h m st (calls.Free addr) replies.NotLive (not_live (setting_of h) m addr st.limits.some_callers st.at_rest (none_lives addr v f)).0
+  free_none : (addr : ℕ) → has_live m.state.lfh addr ≡ false → block_at h.vs addr ≡ None → find (is_block_at addr) runs ≡ None → Serves h h m (calls.Free addr) replies.NotLive
+  free_none addr u v f = still_serves h m st (calls.Free addr) replies.NotLive (not_live (setting_of h) m addr st.limits.some_callers st.at_rest (none_lives addr u v f)).0
 
-  size_none : (addr : ℕ) → block_at h.vs addr ≡ None → find (is_block_at addr) runs ≡ None → Serves h h m (calls.Size addr) replies.NotLive
-  size_none addr v f = still_serves h m st (calls.Size addr) replies.NotLive (not_live (setting_of h) m addr st.limits.some_callers st.at_rest (none_lives addr v f)).1
+  size_none : (addr : ℕ) → has_live m.state.lfh addr ≡ false → block_at h.vs addr ≡ None → find (is_block_at addr) runs ≡ None → Serves h h m (calls.Size addr) replies.NotLive
+  size_none addr u v f = still_serves h m st (calls.Size addr) replies.NotLive (not_live (setting_of h) m addr st.limits.some_callers st.at_rest (none_lives addr u v f)).1
 
   ---- Whatever the reply is
 
-  pub frees_serve : (new : Kept) (addr : ℕ) (reply : Reply) → block_at h.vs addr ≡ None → Frees h.kept new addr reply → Serves h (record h { kept = new }) m (calls.Free addr) reply
-  frees_serve new addr replies.Done v g = free_serves new addr g.0 g.1
-  frees_serve new addr replies.NotLive v g = subst (λ (k : Kept). Serves h (record h { kept = k }) m (calls.Free addr) replies.NotLive) (sym g.same) (free_none addr v g.none)
-  frees_serve new addr _ v g = absurd g
+  pub frees_serve : (new : Kept) (addr : ℕ) (reply : Reply) → has_live m.state.lfh addr ≡ false → block_at h.vs addr ≡ None → Frees h.back new addr reply → Serves h (record h { back = new }) m (calls.Free addr) reply
+  frees_serve new addr replies.Done u v g = free_serves new addr g.0 g.1
+  frees_serve new addr replies.NotLive u v g = subst (λ (k : Kept). Serves h (record h { back = k }) m (calls.Free addr) replies.NotLive) (sym g.same) (free_none addr u v g.none)
+  frees_serve new addr _ u v g = absurd g
 
-  pub sizes_serve : (addr : ℕ) (reply : Reply) → block_at h.vs addr ≡ None → Sizes h.kept addr reply → Serves h h m (calls.Size addr) reply
-  sizes_serve addr (replies.Number size) v g = size_serves addr g.0 size g.1 g.2
-  sizes_serve addr replies.NotLive v g = size_none addr v g
-  sizes_serve addr _ v g = absurd g
+  pub sizes_serve : (addr : ℕ) (reply : Reply) → has_live m.state.lfh addr ≡ false → block_at h.vs addr ≡ None → Sizes h.back addr reply → Serves h h m (calls.Size addr) reply
+  sizes_serve addr (replies.Number size) u v g = size_serves addr g.0 size g.1 g.2
+  sizes_serve addr replies.NotLive u v g = size_none addr u v g
+  sizes_serve addr _ u v g = absurd g

@@ -14,7 +14,7 @@ use Rattle.heap_model.specs.State.{Area, Span, Place, Status, Live, is_kind, add
 use Rattle.heap_model.specs.Ranges.{vs_spans, is_of_kind}
 use Rattle.heap_model.specs.CallState.{Configuration}
 use Rattle.heap_model.specs.Search.{begins_at, span_at}
-use Rattle.heap_model.specs.Legal.{lies_in, has_place, are_used}
+use Rattle.heap_model.specs.Legal.{lies_in, has_place, are_used, forget_hint}
 use Rattle.heap_soundness.specs.Sound.{IsOneOf, AreInOrder, IsInVs}
 use Rattle.heap_soundness.proofs.Lists.{all_at, found_passes, found_in, any_front}
 use Rattle.heap_soundness.proofs.Spans.{above, same_span}
@@ -22,6 +22,7 @@ use Rattle.heap_soundness.proofs.GapRuns.{filtered_cases}
 use Rattle.serial_laws.specs.VsCalls.{vs_without, live_vs, area_closed}
 use Rattle.serial_laws.proofs.VsFree.{vs_frees, vs_frees_span, vs_sizes}
 use Rattle.serial_laws.proofs.Sorted.{any_sorted}
+use Rattle.claim_rule.specs.Shown.{lfh_spans}
 use Rattle.page_ranges.specs.Spans.{span_of}
 use Rattle.backend_fit.specs.Kept.{Kept, area_of, taken_in, starts_at, without_span}
 use Rattle.vs_headers.specs.declared.Head.{Head}
@@ -30,9 +31,10 @@ use Rattle.vs_layer.specs.Effects.{IsOfOneHeap, HasDropped}
 use Rattle.heap_now.specs.Blocks.{is_block_run, block_runs}
 use Rattle.heap_now.specs.VsBlocks.{IsReturned, IsDropped}
 use Rattle.heap_now.specs.Standing.{LoneHeap, setting_of, Stands, Serves}
-use Rattle.heap_now.proofs.OfKind.{removed_of, removed_other, filter_in_order}
+use Rattle.heap_now.proofs.OfKind.{removed_of, removed_other}
 use Rattle.heap_now.proofs.Known.{keeps, vs_found, vs_has_place, vs_removed, one_heap}
-use Rattle.heap_now.proofs.StandAfter.{vs_serves, vs_still}
+use Rattle.heap_now.proofs.StandAfter.{hints_of, hints_left, vs_serves, vs_still}
+use Rattle.search_laws.proofs.Filtered.{filtered_in_order}
 
 ---- What is found
 
@@ -115,9 +117,19 @@ same_over xs x y p a some i j u v =
     let l1 = leb-true (p.start + 16 * p.granules) (4096 * (y.first + y.pages)) l.1 in
     same_span 0 xs x y (p.start / 4096) a i j (omega arith) (omega arith) (omega arith) (omega arith)
 
+kind_from : (k : Kind) → is_kind k kinds.Vs ≡ true → k ≡ kinds.Vs
+kind_from kinds.Header e = absurd (let z : ⊥ = cc in z)
+kind_from kinds.Free e = absurd (let z : ⊥ = cc in z)
+kind_from kinds.Vs e = refl
+kind_from kinds.Lfh e = absurd (let z : ⊥ = cc in z)
+kind_from kinds.Back e = absurd (let z : ⊥ = cc in z)
+
+other_kind : (k other : Kind) → k ≡ kinds.Vs → is_kind kinds.Vs other ≡ false → is_kind k other ≡ false
+other_kind k other e n = ap (λ (y : Kind). is_kind y other) e ∙ n
+
 module _ (h : LoneHeap) (m : Configuration) (st : Stands h m) where
   in_order : AreInOrder 0 h.vs.spans
-  in_order = subst (AreInOrder 0) st.vs_spans_are (filter_in_order (is_of_kind kinds.Vs) 0 m.state.back.area.spans (keeps h m st).heap.spans.in_order)
+  in_order = subst (AreInOrder 0) st.vs_spans_are (filtered_in_order (is_of_kind kinds.Vs) 0 m.state.back.area.spans (keeps h m st).heap.spans.in_order)
 
   -- each span has a place
   used : (y : Span) → IsOneOf y h.vs.spans → has_place 4096 (places_of h.vs) y ≡ true
@@ -181,6 +193,12 @@ module _ (h : LoneHeap) (m : Configuration) (st : Stands h m) where
     spans_less : vs_spans (area_closed m.state.back.area x.first) ≡ remove_found (begins_at x.first) h.vs.spans
     spans_less = removed_of (is_of_kind kinds.Vs) (begins_at x.first) m.state.back.area.spans x x_found x_among.1 ∙ ap (remove_found (begins_at x.first)) st.vs_spans_are
 
+    none_of_lfh : is_of_kind kinds.Lfh x ≡ false
+    none_of_lfh = other_kind x.kind kinds.Lfh (kind_from x.kind x_among.1) refl
+
+    lfh_less : lfh_spans (area_closed m.state.back.area x.first) ≡ lfh_spans m.state.back.area
+    lfh_less = removed_other (is_of_kind kinds.Lfh) (begins_at x.first) m.state.back.area.spans x x_found none_of_lfh
+
     -- where one place is left in its span
     all_used : has_place 4096 (places_without h.vs addr) x ≡ true → are_used 4096 kinds.Vs (vs_without m.state.vs.places addr) m.state.back.area.spans ≡ true
     all_used left = true_from (has_place 4096 (vs_without m.state.vs.places addr)) (vs_spans m.state.back.area)
@@ -195,9 +213,6 @@ module _ (h : LoneHeap) (m : Configuration) (st : Stands h m) where
             let parts = removed_parts 0 x.first h.vs.spans y in_order (subst (IsOneOf y) spans_less i) in
             vs_has_place h m st addr y ∙ still_used y parts.0 (λ e. absurd (parts.1 (ap (λ (z : Span). z.first) (sym e))))
 
-    call_is : calls.Free (p.start + 16) ≡ calls.Free addr
-    call_is = ap calls.Free (sym starts)
-
     less : (a : ℕ) → a ≡ addr → by_address (vs_without m.state.vs.places a) ≡ places_without h.vs addr
     less a e = ap (λ (b : ℕ). by_address (vs_without m.state.vs.places b)) e ∙ vs_removed h m st addr
 
@@ -205,45 +220,35 @@ module _ (h : LoneHeap) (m : Configuration) (st : Stands h m) where
       served_same : m.state.vs.served ≡ served_of later
       served_same = st.served ∙ sym (ap (λ (ns : List ℕ). served_of (record h.vs { served = ns })) served)
 
-      as_free : Serves h (record h { kept = new; vs = later }) m (calls.Free (p.start + 16)) replies.Done → Serves h (record h { kept = new; vs = later }) m (calls.Free addr) replies.Done
-      as_free s = subst (λ (a : ℕ). Serves h (record h { kept = new; vs = later }) m (calls.Free a) replies.Done) (sym starts) s
+      as_free : Serves h (record h { back = new; vs = later }) m (calls.Free (p.start + 16)) replies.Done → Serves h (record h { back = new; vs = later }) m (calls.Free addr) replies.Done
+      as_free s = subst (λ (a : ℕ). Serves h (record h { back = new; vs = later }) m (calls.Free a) replies.Done) (sym starts) s
 
-      drop_serves : new ≡ h.kept → has_place 4096 (places_of later) x ≡ true → later.spans ≡ h.vs.spans → Serves h (record h { kept = new; vs = later }) m (calls.Free addr) replies.Done
+      drop_serves : new ≡ h.back → has_place 4096 (places_of later) x ≡ true → later.spans ≡ h.vs.spans → Serves h (record h { back = new; vs = later }) m (calls.Free addr) replies.Done
       drop_serves same left spans =
           let left_is : has_place 4096 (places_without h.vs addr) x ≡ true = ap (λ (ps : List Place). has_place 4096 ps x) (sym places) ∙ left in
           let used_still = subst (λ (a : ℕ). are_used 4096 kinds.Vs (vs_without m.state.vs.places a) m.state.back.area.spans ≡ true) starts (all_used left_is) in
           let e = vs_frees (setting_of h) m p.start p.granules size_is st.limits.some_callers st.at_rest (found_here addr p there) used_still in
-          as_free (vs_serves h m st new later (calls.Free (p.start + 16)) replies.Done m.state.back.area (vs_without m.state.vs.places (p.start + 16)) m.state.vs.served e
+          as_free (vs_serves h m st new later (calls.Free (p.start + 16)) replies.Done m.state.back.area (vs_without m.state.vs.places (p.start + 16)) m.state.vs.served (hints_of m) e
           (st.area ∙ ap area_of (sym same)) (ap (λ (k : Kept). block_runs k.words) same) (ap (λ (k : Kept). k.region.segments) same)
-          (st.vs_spans_are ∙ sym spans) (less (p.start + 16) (sym starts) ∙ sym places) served_same active heap)
+          (st.vs_spans_are ∙ sym spans) refl refl (less (p.start + 16) (sym starts) ∙ sym places) served_same active heap)
 
-      close_serves : (first pages : ℕ) → first ≡ x.first → IsReturned h.kept new (Some (first, pages)) → has_place 4096 (places_of later) x ≡ false → later.spans ≡ remove_found (begins_at x.first) h.vs.spans →
-          Serves h (record h { kept = new; vs = later }) m (calls.Free addr) replies.Done
+      close_serves : (first pages : ℕ) → first ≡ x.first → IsReturned h.back new (Some (first, pages)) → has_place 4096 (places_of later) x ≡ false → later.spans ≡ remove_found (begins_at x.first) h.vs.spans →
+          Serves h (record h { back = new; vs = later }) m (calls.Free addr) replies.Done
       close_serves first pages is back gone spans =
           let none : has_place 4096 (vs_without m.state.vs.places addr) x ≡ false = vs_has_place h m st addr x ∙ ap (λ (ps : List Place). has_place 4096 ps x) (sym places) ∙ gone in
           let none_at = subst (λ (a : ℕ). has_place 4096 (vs_without m.state.vs.places a) x ≡ false) starts none in
           let used_at = subst (λ (a : ℕ). are_used 4096 kinds.Vs (vs_without m.state.vs.places a) (area_closed m.state.back.area x.first).spans ≡ true) starts rest_used in
           let e = vs_frees_span (setting_of h) m p.start p.granules size_is x st.limits.some_callers st.at_rest (found_here addr p there) x_found (kind_from x.kind x_among.1) none_at used_at in
-          let run = run_found x.first (taken_in h.kept.words) x (ap (λ (a : Area). span_at a x.first) (sym st.area) ∙ x_found) in
-          let other : is_block_run run.0 ≡ false = other_kind run.0.mark.kind (ap (λ (y : Span). y.kind) run.2 ∙ kind_from x.kind x_among.1) in
-          let blocks : block_runs new.words ≡ block_runs h.kept.words = ap (filter is_block_run) (back.1 ∙ ap (λ (f : ℕ). remove_found (starts_at f) (taken_in h.kept.words)) is) ∙ removed_other is_block_run (starts_at x.first) (taken_in h.kept.words) run.0 run.1 other in
-          as_free (vs_serves h m st new later (calls.Free (p.start + 16)) replies.Done (area_closed m.state.back.area x.first) (vs_without m.state.vs.places (p.start + 16)) m.state.vs.served e
-          (ap (λ (a : Area). area_closed a x.first) st.area ∙ ap (without_span (area_of h.kept)) (sym is) ∙ sym back.0) blocks back.2
-          (spans_less ∙ sym spans) (less (p.start + 16) (sym starts) ∙ sym places) served_same active heap)
-        where
-          kind_from : (k : Kind) → is_kind k kinds.Vs ≡ true → k ≡ kinds.Vs
-          kind_from kinds.Header e = absurd (let z : ⊥ = cc in z)
-          kind_from kinds.Free e = absurd (let z : ⊥ = cc in z)
-          kind_from kinds.Vs e = refl
-          kind_from kinds.Lfh e = absurd (let z : ⊥ = cc in z)
-          kind_from kinds.Back e = absurd (let z : ⊥ = cc in z)
+          let run = run_found x.first (taken_in h.back.words) x (ap (λ (a : Area). span_at a x.first) (sym st.area) ∙ x_found) in
+          let other : is_block_run run.0 ≡ false = other_kind run.0.mark.kind kinds.Back (ap (λ (y : Span). y.kind) run.2 ∙ kind_from x.kind x_among.1) refl in
+          let blocks : block_runs new.words ≡ block_runs h.back.words = ap (filter is_block_run) (back.1 ∙ ap (λ (f : ℕ). remove_found (starts_at f) (taken_in h.back.words)) is) ∙ removed_other is_block_run (starts_at x.first) (taken_in h.back.words) run.0 run.1 other in
+          as_free (vs_serves h m st new later (calls.Free (p.start + 16)) replies.Done (area_closed m.state.back.area x.first) (vs_without m.state.vs.places (p.start + 16)) m.state.vs.served (forget_hint x.first (hints_of m)) e
+          (ap (λ (a : Area). area_closed a x.first) st.area ∙ ap (without_span (area_of h.back)) (sym is) ∙ sym back.0) blocks back.2
+          (spans_less ∙ sym spans) lfh_less (hints_left h m st x x_among.0 none_of_lfh) (less (p.start + 16) (sym starts) ∙ sym places) served_same active heap)
 
-          other_kind : (k : Kind) → k ≡ kinds.Vs → is_kind k kinds.Back ≡ false
-          other_kind k e = ap (λ (y : Kind). is_kind y kinds.Back) e
-
-  pub frees_vs : (new : Kept) (later : VsKept) (addr : ℕ) → IsDropped h.kept new h.vs later addr → Serves h (record h { kept = new; vs = later }) m (calls.Free addr) replies.Done
+  pub frees_vs : (new : Kept) (later : VsKept) (addr : ℕ) → IsDropped h.back new h.vs later addr → Serves h (record h { back = new; vs = later }) m (calls.Free addr) replies.Done
   frees_vs new later addr g = by_closed g.closed g.dropped g.returned
     where
-      by_closed : (o : Option (ℕ × ℕ)) → HasDropped h.vs later addr o → IsReturned h.kept new o → Serves h (record h { kept = new; vs = later }) m (calls.Free addr) replies.Done
+      by_closed : (o : Option (ℕ × ℕ)) → HasDropped h.vs later addr o → IsReturned h.back new o → Serves h (record h { back = new; vs = later }) m (calls.Free addr) replies.Done
       by_closed None d back = drop_serves addr d.place d.span d.block.there d.block.over new later d.places d.served d.active d.heap back d.closed.0 d.closed.1
       by_closed (Some (first, pages)) d back = close_serves addr d.place d.span d.block.there d.block.over new later d.places d.served d.active d.heap first pages d.closed.1 back d.closed.0 d.closed.3

@@ -1,3 +1,4 @@
 pub mod Blocks
 pub mod VsBlocks
+pub mod Layers
 pub mod Standing

@@ -1,5 +1,5 @@
 -- Blocks of the variable-size layer: what an allocation, a free and a question for the size do with it and the back end under it.
-use Rattle.std.specs.Prelude.{◌≡◌, ◌⊎◌, ℕ, ◌*◌, ◌≤◌, Bool, true, false, length, Option, Some, None}
+use Rattle.std.specs.Prelude.{◌≡◌, ◌⊎◌, ℕ, ◌*◌, Bool, true, false, length, Option, Some, None}
 use Rattle.std.specs.List.{AllByRecursion}
 use Rattle.heap_model.specs.declared.Kind.TheVariants as kinds
 use Rattle.heap_model.specs.declared.Mark.{Mark}
@@ -15,7 +15,7 @@ use Rattle.heap_soundness.specs.Sound.{AreAt, IsInVs}
 use Rattle.backend_fit.specs.Kept.{Kept, area_of, taken_in, with_segment, marked_run, insert_run, starts_at, without_span}
 use Rattle.vs_layer.specs.Kept.{VsKept, vs_span, places_of, place_for, block_at}
 use Rattle.vs_layer.specs.Effects.{IsOfOneHeap, LieApart, HasPlaced, HasDropped}
-use Rattle.heap_now.specs.Blocks.{Allocates, Frees, Sizes}
+use Rattle.heap_now.specs.Blocks.{Frees, Sizes}
 
 -- Both layers are of one heap: the spans of the one are those of its kind in the other, it has the granules of all segments, and its
 -- blocks lie in its spans.
@@ -73,11 +73,6 @@ abbrev pub AllocatesVs : Kept → Kept → VsKept → VsKept → ℕ → Reply �
 AllocatesVs old new vs later n (replies.Address a) = IsInGap old new vs later n a ⊎ IsInSpan old new vs later n a
 AllocatesVs old new vs later n replies.NoFit = HasNoRange old new vs later n
 AllocatesVs old new vs later n reply = ⊥
-
--- an allocation goes to the layer of its size
-abbrev pub AllocatesIn : Kept → Kept → VsKept → VsKept → ℕ → Reply → Type 0
-AllocatesIn old new vs later n reply =
-    ((n ≤ 131072) × AllocatesVs old new vs later n reply) ⊎ ((131073 ≤ n) × Allocates old new n reply × (later ≡ vs))
 
 -- a span that was closed went back to the back end
 abbrev pub IsReturned : Kept → Kept → Option (ℕ × ℕ) → Type 0

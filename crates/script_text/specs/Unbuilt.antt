@@ -1,4 +1,4 @@
--- The commands that are built at a level of the work, and the first one of a script that is not.
+-- The commands that the program runs at a level, and the first one of a script that it does not.
 use Rattle.std.specs.Prelude.{ℕ, ◌+◌, ◌==◌, Bool, true, false, ◌&&◌, not, nat_le, List, [], ◌∷◌, ◌++◌, count_by, Option, Some, None, if◌then◌else◌}
 use Rattle.std.specs.List.{list_any}
 use Rattle.script_text.specs.declared.commands.Command.{Command}

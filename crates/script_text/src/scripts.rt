@@ -123,7 +123,7 @@ impl Script {
 }
 
 impl Script {
-    /// The line of the first command that is not built at a level of the work, of 2 to 6.
+    /// The line of the first command that the program does not run at a level, of 2 to 6.
     pub fn first_unbuilt(&self, level: u8) -> Option<u32>
         requires low { 2 ≤ level }
         requires high { level ≤ 6 }

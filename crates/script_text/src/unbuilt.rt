@@ -1,4 +1,4 @@
-// The commands that are built so far, level after level of the work.
+// The commands that the program runs at a level, and the first one of a script that it does not.
 ghost use Rattle.std.specs.Prelude.{◌≡◌, IfNone};
 ghost use Rattle.script_text.specs.Unbuilt.{is_free, is_small, alloc_built, is_built, of_threads, first_unbuilt};
 ghost use Rattle.script_text.specs.Seen.{seen_next, seen_after, unbuilt_from};

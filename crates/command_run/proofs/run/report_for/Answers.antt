@@ -25,7 +25,7 @@ use Rattle.command_run.proofs.ServedLemmas.{fit_served}
 use Rattle.command_run.proofs.run.report_for.Goals as goal
 
 pub run_rounds-requires : goal.run_rounds-requires
-run_rounds-requires c = fit_served c.args.script.now c.in_ok-heap.heap c.requires.fit c.in_ok-heap.ensures.stands
+run_rounds-requires c = fit_served c.args.script.now c.requires.fit
 
 -- the text of a report, where there is one
 report_text_of : (r : Result Text OutOfMemory) (due : List ℕ) (segments : ℕ) (script : ScriptLines) (said : (written : List ℕ) → written ≡ due → IsReportOf segments script written) →

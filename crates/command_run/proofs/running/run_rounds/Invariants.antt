@@ -4,12 +4,11 @@ use Rattle.heap_now.specs.Standing.{Stands}
 use Rattle.script_text.specs.Scripts.{commands_of}
 use Rattle.command_run.specs.Values.{value_at}
 use Rattle.command_run.specs.Commands.{unassigned, in_rounds}
-use Rattle.command_run.specs.Running.{AddUp, Runs, Fit}
+use Rattle.command_run.specs.Running.{Runs, Fit}
 use Rattle.command_run.proofs.running.run_rounds.Given as goal
 
 abbrev pub invariant-loop-round : goal.invariant-loop-round
 invariant-loop-round l = record {
-  adds : AddUp l.fn.heap.vs l.heap.vs (in_rounds (take l.round (commands_of l.script)));
   fit : Fit (take l.round (commands_of l.script)) l.answers;
   runs : (m : Configuration) → Stands l.fn.heap m → Runs l.fn.heap l.heap unassigned (value_at l.values) (in_rounds (take l.round (commands_of l.script))) (in_rounds l.answers) m;
 }

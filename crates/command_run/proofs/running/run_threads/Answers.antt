@@ -1,4 +1,4 @@
-use Rattle.std.proofs.Common.{◌≡◌, ◌+◌, ◌++◌, ◌∷◌, [], List, length, take, drop, map, subst, sym, ap, ◌∙◌}
+use Rattle.std.proofs.Common.{◌≡◌, ◌+◌, ◌++◌, ◌∷◌, [], List, length, take, map, subst, sym, ap, ◌∙◌}
 use Rattle.heap_model.specs.declared.Reply.{Reply}
 use Rattle.script_text.specs.declared.commands.Command.{Command}
 use Rattle.script_text.specs.ThreadLines.{ThreadLines}
@@ -7,9 +7,9 @@ use Rattle.heap_now.specs.Standing.{setting_of}
 use Rattle.serial_laws.specs.OneCall.{end_of}
 use Rattle.command_run.specs.Values.{value_at}
 use Rattle.command_run.specs.Commands.{thread_commands, round_commands, in_threads, calls_of}
-use Rattle.command_run.specs.Running.{CanServe, AddUp, Runs, FitThreads}
+use Rattle.command_run.specs.Running.{IsServed, AreServed, Runs, FitThreads}
 use Rattle.command_run.proofs.RunLemmas.{runs_append}
-use Rattle.command_run.proofs.ServedLemmas.{adds_append, can_mid, cut_at, in_threads_append}
+use Rattle.command_run.proofs.ServedLemmas.{all_in_threads, mapped_at}
 use Rattle.command_run.proofs.FitLemmas.{take_mapped, fit_thread, threads_more}
 use Rattle.command_run.proofs.running.run_threads.Goals as goal
 
@@ -17,17 +17,10 @@ pub run_thread-requires : goal.run_thread-requires
 run_thread-requires c =
     let s = c.args.script.now in
     let threads = round_at s c.args.round in
-    let all = round_commands threads in
     let i = c.loop-thread.thread in
-    let cs : List Command = thread_commands (thread_at s c.args.round i).commands in
-    let same : thread_commands c.commands.result.now ≡ cs = ap thread_commands c.commands.ensures in
     let low = rw c.threads-thread-end.ensures at c.loop-thread-test.true in
-    let more : take (i + 1) all ≡ take i all ++ cs ∷ [] = take_mapped (λ (t : ThreadLines). map command_of t.commands) threads i no_thread low in
-    subst (CanServe c.loop-thread.heap.vs) (sym same)
-    (can_mid c.args.heap.now.vs c.loop-thread.heap.vs (in_threads all) (in_threads (take i all)) cs (in_threads (drop (i + 1) all)) c.requires.served
-    (ap in_threads (cut_at (i + 1) all) ∙ in_threads_append (take (i + 1) all) (drop (i + 1) all)
-    ∙ ap (λ ks. ks ++ in_threads (drop (i + 1) all)) (ap in_threads more ∙ threads_more (take i all) cs))
-    c.loop-thread.invariant.adds)
+    subst AreServed (sym (ap thread_commands c.commands.ensures))
+    (mapped_at AreServed (λ (t : ThreadLines). map command_of t.commands) threads i no_thread (all_in_threads IsServed (round_commands threads) c.requires.served) low)
 
 pub loop-thread-preserved : goal.loop-thread-preserved
 loop-thread-preserved c =
@@ -41,24 +34,19 @@ loop-thread-preserved c =
     let low = rw c.threads-thread-end.ensures at c.loop-thread-test.true in
     let more : take (i + 1) (round_commands threads) ≡ before ++ cs ∷ [] = take_mapped (λ (t : ThreadLines). map command_of t.commands) threads i no_thread low in
     let each : length rs ≡ length cs = c.in_ok-replies.ensures.each ∙ ap length same in
+    λ front e.
+    let x = c.loop-thread.invariant front e in
     record {
-      adds = subst (λ (ks : List Command). AddUp c.args.heap.now.vs c.run_thread.new.heap.vs ks) (sym (ap in_threads more ∙ threads_more before cs))
-          (adds_append c.args.heap.now.vs c.loop-thread.heap.vs c.run_thread.new.heap.vs (in_threads before) cs c.loop-thread.invariant.adds
-          (subst (λ (ks : List Command). AddUp c.loop-thread.heap.vs c.run_thread.new.heap.vs ks) same c.in_ok-replies.ensures.adds));
-      runs = λ front e.
-          let x = c.loop-thread.invariant.runs front e in
-          record {
-            last = x.last ++ rs ∷ [];
-            answers_are = c.in_ok-add_thread.ensures.added front x.last x.answers_are;
-            fit = subst (λ (ts : List (List Command)). FitThreads ts (x.last ++ rs ∷ [])) (sym more) (fit_thread before x.last cs rs x.fit each);
-            runs = λ m st.
-                let y = x.runs m st in
-                let n = end_of (setting_of c.args.heap.now) m (calls_of (value_at c.args.values.now) (in_threads before) (in_threads x.last)) y.rests in
-                let z : Runs c.loop-thread.heap c.run_thread.new.heap (value_at c.loop-thread.values) (value_at c.run_thread.new.values) cs rs n =
-                subst (λ (ks : List Command). Runs c.loop-thread.heap c.run_thread.new.heap (value_at c.loop-thread.values) (value_at c.run_thread.new.values) ks rs n) same (c.in_ok-replies.ensures.runs n y.stands) in
-                subst (λ (ks : List Command). Runs c.args.heap.now c.run_thread.new.heap (value_at c.args.values.now) (value_at c.run_thread.new.values) ks (in_threads (x.last ++ rs ∷ [])) m) (sym (ap in_threads more ∙ threads_more before cs))
-                (subst (λ (ks : List Reply). Runs c.args.heap.now c.run_thread.new.heap (value_at c.args.values.now) (value_at c.run_thread.new.values) (in_threads before ++ cs) ks m) (sym (threads_more x.last rs))
-                (runs_append c.args.heap.now c.loop-thread.heap c.run_thread.new.heap (value_at c.args.values.now) (value_at c.loop-thread.values) (value_at c.run_thread.new.values)
-                (in_threads before) cs (in_threads x.last) rs m y z));
-          };
+      last = x.last ++ rs ∷ [];
+      answers_are = c.in_ok-add_thread.ensures.added front x.last x.answers_are;
+      fit = subst (λ (ts : List (List Command)). FitThreads ts (x.last ++ rs ∷ [])) (sym more) (fit_thread before x.last cs rs x.fit each);
+      runs = λ m st.
+          let y = x.runs m st in
+          let n = end_of (setting_of c.args.heap.now) m (calls_of (value_at c.args.values.now) (in_threads before) (in_threads x.last)) y.rests in
+          let z : Runs c.loop-thread.heap c.run_thread.new.heap (value_at c.loop-thread.values) (value_at c.run_thread.new.values) cs rs n =
+          subst (λ (ks : List Command). Runs c.loop-thread.heap c.run_thread.new.heap (value_at c.loop-thread.values) (value_at c.run_thread.new.values) ks rs n) same (c.in_ok-replies.ensures.runs n y.stands) in
+          subst (λ (ks : List Command). Runs c.args.heap.now c.run_thread.new.heap (value_at c.args.values.now) (value_at c.run_thread.new.values) ks (in_threads (x.last ++ rs ∷ [])) m) (sym (ap in_threads more ∙ threads_more before cs))
+          (subst (λ (ks : List Reply). Runs c.args.heap.now c.run_thread.new.heap (value_at c.args.values.now) (value_at c.run_thread.new.values) (in_threads before ++ cs) ks m) (sym (threads_more x.last rs))
+          (runs_append c.args.heap.now c.loop-thread.heap c.run_thread.new.heap (value_at c.args.values.now) (value_at c.loop-thread.values) (value_at c.run_thread.new.values)
+          (in_threads before) cs (in_threads x.last) rs m y z));
     }

@@ -5,18 +5,18 @@ use Rattle.heap_now.proofs.Solo.close.Goals as goal
 
 pub returns-clause-shows : goal.returns-clause-shows
 returns-clause-shows c =
-    closes _ _ c.self.view_is c.into_parts-region.ensures.sound c.into_heads-heads.ensures.shown _ _ c.key_of-key.result c.into_heads-heads.result
-    c.into_parts-region.ensures.region c.into_parts-region.ensures.descs c.key_of-key.ensures c.into_heads-heads.ensures.chunks
+    closes _ _ c.self.view_is c.into_parts-region.ensures.sound c.into_heads-heads.ensures.shown _ _ c.key_of-key.result c.into_heads-heads.result c.into_words-words.result
+    c.into_parts-region.ensures.region c.into_parts-region.ensures.descs c.key_of-key.ensures c.into_heads-heads.ensures.chunks c.into_words-words.ensures
 
 pub returns-clause-blocks : goal.returns-clause-blocks
 returns-clause-blocks c =
-    tells _ _ c.self.view_is c.into_parts-region.ensures.sound c.into_heads-heads.ensures.shown _ _ c.key_of-key.result c.into_heads-heads.result
-    c.into_parts-region.ensures.region c.into_parts-region.ensures.descs c.key_of-key.ensures c.into_heads-heads.ensures.chunks
+    tells _ _ c.self.view_is c.into_parts-region.ensures.sound c.into_heads-heads.ensures.shown _ _ c.key_of-key.result c.into_heads-heads.result c.into_words-words.result
+    c.into_parts-region.ensures.region c.into_parts-region.ensures.descs c.key_of-key.ensures c.into_heads-heads.ensures.chunks c.into_words-words.ensures
 
 pub returns-clause-readable : goal.returns-clause-readable
 returns-clause-readable c =
-    can_be_read _ _ c.self.view_is c.into_parts-region.ensures.sound c.into_heads-heads.ensures.shown _ _ c.key_of-key.result c.into_heads-heads.result
-    c.into_parts-region.ensures.region c.into_parts-region.ensures.descs c.key_of-key.ensures c.into_heads-heads.ensures.chunks c.self.invariant
+    can_be_read _ _ c.self.view_is c.into_parts-region.ensures.sound c.into_heads-heads.ensures.shown _ _ c.key_of-key.result c.into_heads-heads.result c.into_words-words.result
+    c.into_parts-region.ensures.region c.into_parts-region.ensures.descs c.key_of-key.ensures c.into_heads-heads.ensures.chunks c.into_words-words.ensures c.self.invariant
 
 pub returns-clause-pages : goal.returns-clause-pages
 returns-clause-pages c =

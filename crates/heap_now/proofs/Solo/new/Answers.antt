@@ -5,11 +5,27 @@ use Rattle.heap_now.proofs.Solo.new.Goals as goal
 
 pub returns-clause-stands : goal.returns-clause-stands
 returns-clause-stands c =
-    opens c.args.limits c.args.seed c.in_ok-back.back c.in_ok-vs.vs c.requires c.in_ok-back.ensures.area c.in_ok-back.ensures.marks c.in_ok-back.ensures.segments
-    (c.in_ok-vs.ensures ∙ ap (nothing_kept c.args.limits.segments) c.key_of.ensures)
+    opens c.args.limits c.args.seed c.in_ok-back.back c.in_ok-vs.vs c.in_ok-lfh.lfh c.new-draws.result (record {
+      valid = c.requires;
+      area = c.in_ok-back.ensures.area;
+      taken = c.in_ok-back.ensures.marks;
+      segments = c.in_ok-back.ensures.segments;
+      vs_is = c.in_ok-vs.ensures ∙ ap (nothing_kept c.args.limits.segments) c.key_of.ensures;
+      front = c.in_ok-lfh.ensures.stands;
+      front_limits = c.in_ok-lfh.ensures.limits;
+      draws = c.new-draws.ensures ∙ c.new-4.ensures;
+    })
 
 pub invariant_of-result : goal.invariant_of-result
 invariant_of-result c =
-    begins c.args.limits c.args.seed c.in_ok-back.back c.in_ok-vs.vs
-    (opens c.args.limits c.args.seed c.in_ok-back.back c.in_ok-vs.vs c.requires c.in_ok-back.ensures.area c.in_ok-back.ensures.marks c.in_ok-back.ensures.segments
-    (c.in_ok-vs.ensures ∙ ap (nothing_kept c.args.limits.segments) c.key_of.ensures))
+    begins c.args.limits c.args.seed c.in_ok-back.back c.in_ok-vs.vs c.in_ok-lfh.lfh c.new-draws.result
+    (opens c.args.limits c.args.seed c.in_ok-back.back c.in_ok-vs.vs c.in_ok-lfh.lfh c.new-draws.result (record {
+      valid = c.requires;
+      area = c.in_ok-back.ensures.area;
+      taken = c.in_ok-back.ensures.marks;
+      segments = c.in_ok-back.ensures.segments;
+      vs_is = c.in_ok-vs.ensures ∙ ap (nothing_kept c.args.limits.segments) c.key_of.ensures;
+      front = c.in_ok-lfh.ensures.stands;
+      front_limits = c.in_ok-lfh.ensures.limits;
+      draws = c.new-draws.ensures ∙ c.new-4.ensures;
+    }))
