@@ -4,7 +4,8 @@
     bench/measure.py [PROGRAM]       PROGRAM: crates/command_run/out/command_run where none is named
 
 Each row runs a pattern with a number of blocks alive at once and with twice and four times as many. Where a cost grew with the number of
-blocks, the columns would grow with it. A run is the best of five."""
+blocks, the columns would grow with it. A bucket is active behind 17 live blocks of its size, so its rows work subsegments of the
+low-fragmentation front end: of 252 blocks of 16 bytes, and of 15 blocks of 256. A run is the best of five."""
 import os
 import subprocess
 import sys
@@ -59,6 +60,8 @@ def main():
         ('back end, with holes', holes, 135168, 20),
         ('variable size, blocks of 20,000', churn, 20000, 100),
         ('variable size, with holes', holes, 20000, 100),
+        ('active bucket, blocks of 16', churn, 16, 100),
+        ('active bucket, blocks of 256', churn, 256, 60),
     ]
     print(f'{"ns a command":36}{"N":>8}{"2 N":>8}{"4 N":>8}')
     for name, pattern, size, alive in rows:
