@@ -106,94 +106,121 @@ fn blocks_have_the_pages_that_they_need(rt: HostRuntime) {
 }
 
 #[test]
-fn steps_are_answered(rt: HostRuntime) -> Result<(), OutOfMemory> {
-    let cases: [&[Step]; 6] = [
-        // The fourth does not fit.
-        &[
-            Place(16384, Some(8256)),
-            Place(16384, Some(24656)),
-            Place(16384, Some(41056)),
-            Place(16384, None),
-        ],
-        // A size of 0 has an address of its own.
-        &[
-            Place(1, Some(8256)),
-            Place(1, Some(8288)),
-            Place(0, Some(8320)),
-            Find(8320, Some(0)),
-            Find(8321, None),
-            Find(8304, None),
-            Place(16368, Some(8352)),
-            Place(16369, Some(24736)),
-            Find(24736, Some(16369)),
-            Place(131072, None),
-        ],
-        // The gap of 3 granules goes to a block that needs 2, and one granule is never left alone.
-        &[
-            Place(32, Some(8256)),
-            Place(16, Some(8304)),
-            Drop(8256, None),
-            Place(16, Some(8256)),
-            Place(16, Some(8336)),
-            Resize(8256, 32, true),
-            Find(8256, Some(32)),
-            Resize(8256, 33, false),
-            Find(8256, Some(32)),
-        ],
-        // A block grows by a granule into the gap behind it, and is no shorter for a granule less.
-        &[
-            Place(32, Some(8256)),
-            Place(16, Some(8304)),
-            Resize(8256, 33, false),
-            Resize(8304, 17, true),
-            Resize(8304, 16, true),
-            Place(16, Some(8336)),
-            Drop(8336, None),
-            Resize(8256, 16, true),
-            Resize(8256, 32, true),
-            Resize(8304, 65536, false),
-            Resize(8304, 131_073, false),
-            Drop(8304, None),
-            Resize(8256, 65_456, true),
-            Place(0, None),
-            Resize(8256, 0, true),
-            Drop(8256, Some((2, 16))),
-            Place(0, None),
-        ],
-        // Gaps on both sides become one with the place that goes.
-        &[
-            Place(16, Some(8256)),
-            Place(32, Some(8288)),
-            Place(48, Some(8336)),
-            Place(16, Some(8400)),
-            Drop(8256, None),
-            Drop(8336, None),
-            Drop(8288, None),
-            Place(144, Some(8432)),
-            Place(128, Some(8256)),
-            Drop(8432, None),
-            Drop(8256, None),
-            Drop(8400, Some((2, 16))),
-        ],
-        // The smallest gap, and the lower one of two.
-        &[
-            Place(32, Some(8256)),
-            Place(16, Some(8304)),
-            Place(16, Some(8336)),
-            Place(16, Some(8368)),
-            Place(16, Some(8400)),
-            Drop(8256, None),
-            Drop(8304, None),
-            Drop(8368, None),
-            Place(16, Some(8368)),
-            Drop(8336, None),
-            Place(32, Some(8256)),
-        ],
+fn the_fourth_large_block_does_not_fit(rt: HostRuntime) -> Result<(), OutOfMemory> {
+    let mut vs = one_span(rt.alloc())?;
+    let steps = [
+        Place(16384, Some(8256)),
+        Place(16384, Some(24656)),
+        Place(16384, Some(41056)),
+        Place(16384, None),
     ];
-    for (i, steps) in cases.iter().enumerate() {
-        let mut vs = one_span(rt.alloc())?;
-        assert_eq!(rt; first_wrong(&mut vs, steps), None, "case {i}");
-    }
+    assert_eq!(rt; first_wrong(&mut vs, &steps), None);
+    Ok(())
+}
+
+#[test]
+fn a_size_of_0_has_an_address(rt: HostRuntime) -> Result<(), OutOfMemory> {
+    let mut vs = one_span(rt.alloc())?;
+    let steps = [
+        Place(1, Some(8256)),
+        Place(1, Some(8288)),
+        Place(0, Some(8320)),
+        Find(8320, Some(0)),
+        Find(8321, None),
+        Find(8304, None),
+        Place(16368, Some(8352)),
+        Place(16369, Some(24736)),
+        Find(24736, Some(16369)),
+        Place(131072, None),
+    ];
+    assert_eq!(rt; first_wrong(&mut vs, &steps), None);
+    Ok(())
+}
+
+/// The gap of 3 granules goes to a block that needs 2.
+#[test]
+fn one_granule_is_never_left_alone(rt: HostRuntime) -> Result<(), OutOfMemory> {
+    let mut vs = one_span(rt.alloc())?;
+    let steps = [
+        Place(32, Some(8256)),
+        Place(16, Some(8304)),
+        Drop(8256, None),
+        Place(16, Some(8256)),
+        Place(16, Some(8336)),
+        Resize(8256, 32, true),
+        Find(8256, Some(32)),
+        Resize(8256, 33, false),
+        Find(8256, Some(32)),
+    ];
+    assert_eq!(rt; first_wrong(&mut vs, &steps), None);
+    Ok(())
+}
+
+/// It is no shorter for a granule less.
+#[test]
+fn a_block_grows_into_the_gap_behind_it(rt: HostRuntime) -> Result<(), OutOfMemory> {
+    let mut vs = one_span(rt.alloc())?;
+    let steps = [
+        Place(32, Some(8256)),
+        Place(16, Some(8304)),
+        Resize(8256, 33, false),
+        Resize(8304, 17, true),
+        Resize(8304, 16, true),
+        Place(16, Some(8336)),
+        Drop(8336, None),
+        Resize(8256, 16, true),
+        Resize(8256, 32, true),
+        Resize(8304, 65536, false),
+        Resize(8304, 131_073, false),
+        Drop(8304, None),
+        Resize(8256, 65_456, true),
+        Place(0, None),
+        Resize(8256, 0, true),
+        Drop(8256, Some((2, 16))),
+        Place(0, None),
+    ];
+    assert_eq!(rt; first_wrong(&mut vs, &steps), None);
+    Ok(())
+}
+
+#[test]
+fn gaps_on_both_sides_become_one(rt: HostRuntime) -> Result<(), OutOfMemory> {
+    let mut vs = one_span(rt.alloc())?;
+    let steps = [
+        Place(16, Some(8256)),
+        Place(32, Some(8288)),
+        Place(48, Some(8336)),
+        Place(16, Some(8400)),
+        Drop(8256, None),
+        Drop(8336, None),
+        Drop(8288, None),
+        Place(144, Some(8432)),
+        Place(128, Some(8256)),
+        Drop(8432, None),
+        Drop(8256, None),
+        Drop(8400, Some((2, 16))),
+    ];
+    assert_eq!(rt; first_wrong(&mut vs, &steps), None);
+    Ok(())
+}
+
+#[test]
+fn the_smallest_gap_is_taken_and_the_lower_of_two(rt: HostRuntime) -> Result<(), OutOfMemory> {
+    let mut vs = one_span(rt.alloc())?;
+    let steps = [
+        Place(32, Some(8256)),
+        Place(16, Some(8304)),
+        Place(16, Some(8336)),
+        Place(16, Some(8368)),
+        Place(16, Some(8400)),
+        Drop(8256, None),
+        Drop(8304, None),
+        Drop(8368, None),
+        Place(16, Some(8368)),
+        Drop(8336, None),
+        Place(32, Some(8256)),
+    ];
+    assert_eq!(rt; first_wrong(&mut vs, &steps), None);
     Ok(())
 }
 
