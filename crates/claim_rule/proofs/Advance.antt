@@ -1,6 +1,6 @@
 -- One law for all steps of a caller: where its own entries may come behind the carried ones, and the words and the slots show what is behind
 -- them, the rule goes on, and the caller has seen the whole history.
-use Rattle.std.proofs.Common.{◌≡◌, ℕ, ◌≤◌, true, List, [], ◌∷◌, ◌++◌, length, set, refl, sym, ap, ◌∙◌, subst, Option}
+use Rattle.std.proofs.Common.{◌≡◌, ℕ, ◌≤◌, true, List, [], ◌∷◌, ◌++◌, length, set, refl, sym, ap, ◌∙◌, subst, inl, Option, None}
 use mathlib.Core.Option.{some}
 use lib.ListN.{get_elem?}
 use Rattle.atomic_table.specs.Table.{State, Me, Act, stepped, homes_after}
@@ -13,28 +13,27 @@ use Rattle.heap_model.specs.Agreement.{AgreesFor, GateIsSound}
 use Rattle.heap_model.proofs.GateSound.{gate_sound_after, gate_sound_first}
 use Rattle.heap_model.proofs.Others.{agrees_others}
 use Rattle.claim_rule.specs.declared.views.Assignment.{Assignment}
-use Rattle.claim_rule.specs.declared.views.Opening.{Opening}
+use Rattle.heap_model.specs.declared.Opening.{Opening}
+use Rattle.claim_rule.specs.declared.views.Owed.{Owed}
 use Rattle.claim_rule.specs.declared.views.Role.TheVariants.{Caller}
 use Rattle.claim_rule.specs.declared.views.View.{View}
-use Rattle.claim_rule.specs.Shown.{Lag, lag_from, lag_of, no_lag, AreAllShown}
-use Rattle.claim_rule.specs.Home.{LayerState, AreHome}
+use Rattle.claim_rule.specs.Shown.{holder_from, back_holder, AreAllShown}
+use Rattle.heap_model.specs.Layers.{LayerState}
+use Rattle.claim_rule.specs.Home.{AreHome}
 use Rattle.claim_rule.specs.Entries.{IsSettingOf, IsLegalWith, is_by, is_named, entry}
 use Rattle.claim_rule.specs.Rule.{KnowsAs, IsRuled, IsReady, view_of}
 use Rattle.claim_rule.specs.Plays.{Goes, Adds, number_of}
-use Rattle.claim_rule.specs.Laws.{ActsLaw}
+use Rattle.claim_rule.specs.Laws.{ActsLaw, IsOwing}
 use Rattle.claim_rule.proofs.Lists.{after-append, follow_join, follow_parts, legal_parts, legal_from, none_between, by-append, named-append, named_by, prefix_self, prefix_more, setting_less}
 use Rattle.claim_rule.proofs.Counts.{IsCounted, counted_after, counted_first, counted_few, owner_few}
 use Rattle.claim_rule.proofs.Prepared.{IsCarried, carried, prepared_by, homes_kept}
 use Rattle.claim_rule.proofs.Words.{all_same}
+use Rattle.claim_rule.proofs.Holders.{holder-append}
 use Rattle.claim_rule.proofs.Known.{known_set}
 
 -- the view that has seen the whole history
-abbrev pub sees : View → List Assignment → List Entry → View
-sees v roll log = view_of v.opening v.role roll log v.heard_roll v.heard
-
-lag-append : (g : Lag) (xs ys : List Entry) → lag_from g (xs ++ ys) ≡ lag_from (lag_from g xs) ys
-lag-append g [] ys = refl
-lag-append g (x ∷ xs) ys = lag-append (Rattle.claim_rule.specs.Shown.lag_after g x x.act) xs ys
+abbrev pub sees : View → List Assignment → List Entry → List Owed → View
+sees v roll log owes = view_of v.opening v.role roll log v.heard_roll v.heard owes
 
 -- some setting is one of these callers
 pub some_setting : (o : Opening) (roll : List Assignment) → IsSettingOf o roll (Rattle.claim_rule.specs.Entries.setting_of o roll)
@@ -44,14 +43,14 @@ module _ {T : Type 0} (stands : T → LayerState) (o : Opening) where
   abbrev St : Type 0
   St = State (Option T) View
 
-  pub role_of : (st : St) (r : IsRuled stands o st) (id n : ℕ) (v : View) → get_elem? st.views id ≡ some v → v.role ≡ Caller n → KnowsAs o r.log r.lead r.top r.owner id v (Caller n)
-  role_of st r id n v at is = subst (KnowsAs o r.log r.lead r.top r.owner id v) is (r.known id v at).role
+  pub role_of : (st : St) (r : IsRuled stands o st) (id n : ℕ) (v : View) → get_elem? st.views id ≡ some v → v.role ≡ Caller n → KnowsAs o r.log r.lead r.top r.owner r.owes id v (Caller n)
+  role_of st r id n v at is = subst (KnowsAs o r.log r.lead r.top r.owner r.owes id v) is (r.known id v at).role
 
   -- what is so in a setting behind the carried entries
   pub record IsBefore (st : St) (r : IsRuled stands o st) (n : ℕ) (v : View) (es : List Entry) (s : Setting) (m : Configuration) : Type 0 where
     pub carried : IsCarried s n (configuration_of s r.log) (configuration_of s v.seen) es
     pub whole : m.now.demand ≡ Nothing
-    pub words : AreAllShown o.limits r.lead.counted m (lag_of r.log) st.words
+    pub words : AreAllShown o.limits r.lead.counted m r.owes st.words
     pub home : AreHome stands o m.state st.homes
     pub counted : IsCounted m.state.gate
     pub gate : GateIsSound m.state.gate
@@ -91,7 +90,7 @@ module _ {T : Type 0} (stands : T → LayerState) (o : Opening) where
         record {
           carried = c;
           whole = c.demand ∙ h.whole s q';
-          words = all_same o.limits r.lead.counted (configuration_after s (configuration_of s r.log) es) (configuration_of s r.log) (lag_of r.log) st.words c.shown c.gate t.words;
+          words = all_same o.limits r.lead.counted (configuration_after s (configuration_of s r.log) es) (configuration_of s r.log) r.owes st.words c.shown c.gate t.words;
           home = homes_kept stands o (configuration_after s (configuration_of s r.log) es).state (configuration_of s r.log).state st.homes c.homes t.home;
           counted = counted_after s (configuration_of s r.log) es c.follows (counted_after s first_configuration r.log log.0 counted_first);
           gate = gate_sound_after s (configuration_of s r.log) es c.follows (gate_sound_after s first_configuration r.log log.0 gate_sound_first);
@@ -106,24 +105,22 @@ module _ {T : Type 0} (stands : T → LayerState) (o : Opening) where
         prepared_by s n (configuration_of s v.seen) es (h.prepared s q)
 
     -- The law that each kind of step ends with: its own entries are ds.
-    pub leaves : (c : List (ℕ × Option T)) (i x : ℕ) (a : Act (Option T)) (ds : List Entry) → is_by n ds ≡ true
+    pub leaves : (c : List (ℕ × Option T)) (i x : ℕ) (a : Act (Option T)) (ds : List Entry) (owes mine : List Owed) → is_by n ds ≡ true → IsOwing stands n r.owes owes mine (r.log ++ (es ++ ds))
         → ((s : Setting) → IsSettingOf o r.lead.roll s →
         (may_all_follow s (configuration_after s (configuration_of s r.log) es) ds ≡ true)
         × ((configuration_after s (configuration_after s (configuration_of s r.log) es) ds).now.demand ≡ Nothing)
-        × AreAllShown o.limits r.lead.counted (configuration_after s (configuration_after s (configuration_of s r.log) es) ds) (lag_from (lag_of r.log) ds) (set st.words i x)
+        × AreAllShown o.limits r.lead.counted (configuration_after s (configuration_after s (configuration_of s r.log) es) ds) owes (set st.words i x)
         × AreHome stands o (configuration_after s (configuration_after s (configuration_of s r.log) es) ds).state (homes_after st.homes c a))
-        → (w : View) × IsRuled stands o (stepped st i x id c w a) × Goes n v w es ds
-    leaves c i x a ds bd shows =
+        → (w : View) × IsRuled stands o (stepped st i x id c w a) × Goes n v w es ds × (w.owes ≡ mine) × (w.seen ≡ r.log ++ (es ++ ds)) × (w.roll ≡ r.lead.roll)
+    leaves c i x a ds owes mine bd owing shows =
         let p = role_of st r id n v at h.role in
         let k = r.known id v at in
         let all : List Entry = es ++ ds in
         let ball = by-append n es ds by bd in
         let log : List Entry = r.log ++ all in
-        let w : View = sees v r.lead.roll log in
+        let w : View = sees v r.lead.roll log mine in
         let behind : (s : Setting) → configuration_of s log ≡ configuration_after s (configuration_after s (configuration_of s r.log) es) ds =
         λ s. after-append s first_configuration r.log all ∙ after-append s (configuration_of s r.log) es ds in
-        let lags : (s : Setting) → IsSettingOf o r.lead.roll s → lag_of log ≡ lag_from (lag_of r.log) ds =
-        λ s q. lag-append no_lag r.log all ∙ (lag-append (lag_of r.log) es ds ∙ ap (λ (g : Lag). lag_from g ds) ((before s q).carried.lag (lag_of r.log))) in
         let legal : (s : Setting) → IsSettingOf o r.lead.roll s → is_legal s log ≡ true =
         λ s q. legal_from s log
         (follow_join s first_configuration r.log all (legal_parts s r.log (r.shown s q).legal).0 (follow_join s (configuration_of s r.log) es ds (before s q).carried.follows (shows s q).0))
@@ -134,6 +131,7 @@ module _ {T : Type 0} (stands : T → LayerState) (o : Opening) where
             lead = r.lead;
             top = r.top;
             owner = r.owner;
+            owes = owes;
             numbers = record {
               limits = r.numbers.limits;
               slots = r.numbers.slots;
@@ -145,14 +143,13 @@ module _ {T : Type 0} (stands : T → LayerState) (o : Opening) where
             };
             shown = λ s q. record {
               legal = legal s q;
-              words = subst (λ (m : Configuration). AreAllShown o.limits r.lead.counted m (lag_of log) (set st.words i x)) (sym (behind s))
-                  (subst (λ (g : Lag). AreAllShown o.limits r.lead.counted (configuration_after s (configuration_after s (configuration_of s r.log) es) ds) g (set st.words i x)) (sym (lags s q)) (shows s q).2);
+              words = subst (λ (m : Configuration). AreAllShown o.limits r.lead.counted m owes (set st.words i x)) (sym (behind s)) (shows s q).2;
               home = subst (λ (m : Configuration). AreHome stands o m.state (homes_after st.homes c a)) (sym (behind s)) (shows s q).3;
             };
-            known = known_set o r.log r.lead r.top r.owner n id p.1 p.2 all ball st.views w r.known (record {
+            known = known_set o r.log r.lead r.top r.owner n id p.1 p.2 all ball r.owes owes owing.same st.views w r.known (record {
               seen = record { list_begins = prefix_self log; roll_begins = prefix_self r.lead.roll; legal = legal };
               heard = record { list_begins = prefix_more v.heard r.log all k.heard.list_begins; roll_begins = k.heard.roll_begins; legal = k.heard.legal };
-              role = subst (KnowsAs o log r.lead r.top r.owner id w) (sym h.role) (p.0, p.1, p.2, refl, p.4);
+              role = subst (KnowsAs o log r.lead r.top r.owner owes id w) (sym h.role) (p.0, p.1, p.2, refl, p.4, owing.known);
             });
           },
           record {
@@ -167,26 +164,47 @@ module _ {T : Type 0} (stands : T → LayerState) (o : Opening) where
             opening = refl;
             role = refl;
           },
+          refl,
+          refl,
+          refl,
         )
 
-    -- .. where they make nothing that a word may lag behind
-    pub acts : (c : List (ℕ × Option T)) (i x : ℕ) (a : Act (Option T)) (ds : List Entry) → is_by n ds ≡ true → ((g : Lag) → lag_from g ds ≡ g)
+    -- the setting of a view that has seen all is one of the rule, and the configuration behind what it has seen is that behind the entries
+    pub setting_back : (w : View) (s : Setting) → w.opening ≡ v.opening → w.roll ≡ r.lead.roll → IsSettingOf w.opening w.roll s → IsSettingOf o r.lead.roll s
+    setting_back w s a b q =
+        let p = role_of st r id n v at h.role in
+        subst (λ (z : Opening × List Assignment). IsSettingOf z.0 z.1 s) (λ i. ((a ∙ p.4) i, b i)) q
+
+    pub seen_behind : (w : View) (s : Setting) (ds : List Entry) → w.seen ≡ r.log ++ (es ++ ds) → configuration_of s w.seen ≡ configuration_after s (configuration_after s (configuration_of s r.log) es) ds
+    seen_behind w s ds e = ap (configuration_of s) e ∙ (after-append s first_configuration r.log (es ++ ds) ∙ after-append s (configuration_of s r.log) es ds)
+
+    -- who holds Back behind the carried entries and those
+    pub holder_behind : (ds : List Entry) → back_holder (r.log ++ (es ++ ds)) ≡ holder_from (back_holder r.log) ds
+    holder_behind ds =
+        let s0 = Rattle.claim_rule.specs.Entries.setting_of o r.lead.roll in
+        let q0 = some_setting o r.lead.roll in
+        holder-append None r.log (es ++ ds) ∙ (holder-append (back_holder r.log) es ds ∙ ap (λ (h : Option ℕ). holder_from h ds) ((before s0 q0).carried.holder (back_holder r.log)))
+
+    -- a step that leaves Back with whom it was leaves what is owed
+    pub owes_still : (ds : List Entry) → ((h : Option ℕ) → holder_from h ds ≡ h) → IsOwing stands n r.owes r.owes v.owes (r.log ++ (es ++ ds))
+    owes_still ds same =
+        let p = role_of st r id n v at h.role in
+        record { same = inl refl; known = λ e. p.5 (sym (same (back_holder r.log)) ∙ (sym (holder_behind ds) ∙ e)) }
+
+    -- .. where they leave Back with whom it was, and nothing more is owed
+    pub acts : (c : List (ℕ × Option T)) (i x : ℕ) (a : Act (Option T)) (ds : List Entry) → is_by n ds ≡ true → ((h : Option ℕ) → holder_from h ds ≡ h)
         → ((s : Setting) → IsSettingOf o r.lead.roll s →
         (may_all_follow s (configuration_after s (configuration_of s r.log) es) ds ≡ true)
         × ((configuration_after s (configuration_after s (configuration_of s r.log) es) ds).now.demand ≡ Nothing)
-        × AreAllShown o.limits r.lead.counted (configuration_after s (configuration_after s (configuration_of s r.log) es) ds) (lag_of r.log) (set st.words i x)
+        × AreAllShown o.limits r.lead.counted (configuration_after s (configuration_after s (configuration_of s r.log) es) ds) r.owes (set st.words i x)
         × AreHome stands o (configuration_after s (configuration_after s (configuration_of s r.log) es) ds).state (homes_after st.homes c a))
-        → (w : View) × IsRuled stands o (stepped st i x id c w a) × Goes n v w es ds
-    acts c i x a ds bd lag shows =
-        leaves c i x a ds bd (λ s q.
-        let t = shows s q in
-        let m : Configuration = configuration_after s (configuration_after s (configuration_of s r.log) es) ds in
-        (t.0, t.1, subst (λ (g : Lag). AreAllShown o.limits r.lead.counted m g (set st.words i x)) (sym (lag (lag_of r.log))) t.2, t.3))
+        → (w : View) × IsRuled stands o (stepped st i x id c w a) × Goes n v w es ds × (w.owes ≡ v.owes) × (w.seen ≡ r.log ++ (es ++ ds)) × (w.roll ≡ r.lead.roll)
+    acts c i x a ds bd same shows = leaves c i x a ds r.owes v.owes bd (owes_still ds same) shows
 
 -- the law, as the contract has it
 pub acts_law : {T : Type 0} (stands : T → LayerState) → ActsLaw stands
-acts_law stands o st r id n v es ds c i x a at h by shows =
-    leaves stands o st r id n v es at h c i x a ds by (λ s q.
+acts_law stands o st r id n v es ds c i x a owes mine at h by owing shows =
+    leaves stands o st r id n v es at h c i x a ds owes mine by owing (λ s q.
     let b = before stands o st r id n v es at h s q in
     let t = shows s q (record { agrees = b.carried.agrees; whole = b.whole; words = b.words; home = b.home; gate = b.gate; few = b.few; owner = b.owner }) in
     (t.follows, t.whole, t.shown, t.home))

@@ -15,10 +15,10 @@ use Rattle.heap_model.specs.Legal.{may, may_follow, after, meets_demand, is_begi
 use Rattle.heap_model.specs.History.{configuration_after, configuration_of, may_all_follow}
 use Rattle.heap_model.specs.Agreement.{AgreesFor}
 use Rattle.heap_model.proofs.Stable.{caller_view_same, same_hands}
-use Rattle.claim_rule.specs.declared.views.Opening.{Opening}
+use Rattle.heap_model.specs.declared.Opening.{Opening}
 use Rattle.claim_rule.specs.declared.views.View.{View}
-use Rattle.claim_rule.specs.Home.{LayerState}
-use Rattle.claim_rule.specs.Shown.{Lag, lag_from}
+use Rattle.heap_model.specs.Layers.{LayerState}
+use Rattle.claim_rule.specs.Shown.{holder_from}
 use Rattle.claim_rule.specs.Entries.{IsSettingOf, entry, is_by}
 use Rattle.claim_rule.specs.Rule.{IsRuled, IsReady, ready_after}
 use Rattle.claim_rule.specs.Steps.{MayPass, MayGoOut}
@@ -142,10 +142,10 @@ module _ (s : Setting) (m : Configuration) (n x : ℕ) (h : MayPass m n) (is : x
   pub pass_leaves : IsPassed (after s m (entry n (gate_act n x)))
   pass_leaves = passed ((x / 65536 == 0) || (x / 65536 == n + 1))
 
-pub gate_lag : (g : Lag) (n x : ℕ) → lag_from g (entry n (gate_act n x) ∷ []) ≡ g
-gate_lag g n x = go ((x / 65536 == 0) || (x / 65536 == n + 1))
+pub gate_holder : (h : Option ℕ) (n x : ℕ) → holder_from h (entry n (gate_act n x) ∷ []) ≡ h
+gate_holder h n x = go ((x / 65536 == 0) || (x / 65536 == n + 1))
   where
-    go : (b : Bool) → lag_from g (entry n (cond b acts.Enter (acts.Blocked whats.Gate x)) ∷ []) ≡ g
+    go : (b : Bool) → holder_from h (entry n (cond b acts.Enter (acts.Blocked whats.Gate x)) ∷ []) ≡ h
     go true = refl
     go false = refl
 
@@ -169,7 +169,7 @@ module _ {T : Type 0} (stands : T → LayerState) (o : Opening) where
       (λ s q.
       let b = before stands o st r id n me.0 es at h s q in
       (refl, b.whole, all_kept o.limits r.lead.counted _ _ st.words i b.words, b.home)) in
-      (a.0, keeps, tt, a.1, (goes_of me (a.0, me.1) n es [] h.role a.2, refl))
+      (a.0, keeps, tt, a.1, (goes_of me (a.0, me.1) n es [] h.role a.2, refl, a.3))
 
   pub enters : (slots id n : ℕ) (me : Me (Option T) View) (es : List Entry) → IsReady n me.0 es
       → ((s : Setting) → IsSettingOf me.0.opening me.0.roll s → MayPass (ready_after s me.0 es) n)
@@ -180,7 +180,7 @@ module _ {T : Type 0} (stands : T → LayerState) (o : Opening) where
       let dealt = r.numbers.dealt in
       let counted = r.numbers.counted in
       let top = limits.callers in
-      let a = acts stands o st r id n me.0 es at h me.1 1 ((x + 1) % 2 ^ 64) keeps (entry n (gate_act n x) ∷ []) (one_by n (gate_act n x)) (λ g. gate_lag g n x)
+      let a = acts stands o st r id n me.0 es at h me.1 1 ((x + 1) % 2 ^ 64) keeps (entry n (gate_act n x) ∷ []) (one_by n (gate_act n x)) (λ h. gate_holder h n x)
       (λ s q.
       let b = before stands o st r id n me.0 es at h s q in
       let m : Configuration = configuration_after s (configuration_of s r.log) es in
@@ -194,10 +194,10 @@ module _ {T : Type 0} (stands : T → LayerState) (o : Opening) where
       let y : (x + 1) % 18446744073709551616 ≡ x + 1 = omega arith in (
         one_follows s m n (gate_act n x) b.whole (for_some_is (m.now.calls n).call _ p.call) (enter_may s m n x p is lt),
         d.demand,
-        all_gate o.limits r.lead.counted (after s m (entry n (gate_act n x))) m _ st.words ((x + 1) % 2 ^ 64) d.shown d.locks (λ e k j. d.owner ∙ j) (y ∙ word) b.words,
+        all_gate o.limits r.lead.counted (after s m (entry n (gate_act n x))) m _ st.words ((x + 1) % 2 ^ 64) d.shown d.locks (y ∙ word) b.words,
         homes_kept stands o (after s m (entry n (gate_act n x))).state m.state st.homes d.homes b.home,
       )) in
-      (a.0, keeps, tt, a.1, (subst (λ (k : ℕ). Adds es (gate_act k x) me (a.0, me.1)) (sym (ap number_of h.role)) (adds_of me (a.0, me.1) n es (gate_act n x) h.role a.2), refl))
+      (a.0, keeps, tt, a.1, (subst (λ (k : ℕ). Adds es (gate_act k x) me (a.0, me.1)) (sym (ap number_of h.role)) (adds_of me (a.0, me.1) n es (gate_act n x) h.role a.2), refl, a.3))
 
   pub leaves : (slots id n : ℕ) (me : Me (Option T) View) (es : List Entry) → IsReady n me.0 es
       → ((s : Setting) → IsSettingOf me.0.opening me.0.roll s → MayGoOut (ready_after s me.0 es) n)
@@ -216,7 +216,7 @@ module _ {T : Type 0} (stands : T → LayerState) (o : Opening) where
         one_follows s m n acts.Leave b.whole p.begun p.may,
         refl,
         all_gate o.limits r.lead.counted (after s m (entry n acts.Leave)) m _ st.words ((x + 18446744073709551615) % 18446744073709551616)
-            (record { lfh = refl; words = refl; active = refl; spans = refl; hints = λ k b t. refl; makers = λ f k. refl }) refl (λ e k j. j) y b.words,
+            (record { lfh = refl; words = refl; active = refl; spans = refl; hints = λ k b t. refl; makers = λ f k. refl }) refl y b.words,
         homes_kept stands o (after s m (entry n acts.Leave)).state m.state st.homes (record { locks = refl; vs = λ _. refl; spans = λ _. refl; back = λ _. refl; large = λ _. refl }) b.home,
       )) in
-      (a.0, keeps, tt, a.1, (adds_of me (a.0, me.1) n es acts.Leave h.role a.2, refl))
+      (a.0, keeps, tt, a.1, (adds_of me (a.0, me.1) n es acts.Leave h.role a.2, refl, a.3))

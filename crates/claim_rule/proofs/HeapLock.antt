@@ -1,7 +1,7 @@
 -- The laws of the heap lock: take it, or find a gate word that is not 0; give it back.
 use Rattle.std.proofs.Common.{◌≡◌, ℕ, ◌+◌, ◌-◌, ◌*◌, ◌%◌, ◌^◌, ◌<◌, Bool, true, not, ◌&&◌, ◌==◌, cond, List, [], ◌∷◌, get_or, refl, sym, ap, ◌∙◌, subst, arith, Option, Some, None, eq-eqb, ne_eqb, eqb}
 use Rattle.std.specs.Prelude.{is_some}
-use Rattle.std.proofs.lemmas.Bool.{and_parts, and_from, both_ways, eqb-true, false≢true}
+use Rattle.std.proofs.lemmas.Bool.{and_parts, and_from, eqb-true, false≢true}
 use mathlib.Core.Option.{none, some}
 use lib.ListN.{get_elem?}
 use prog.Atomic.{either}
@@ -11,17 +11,16 @@ use Rattle.heap_model.specs.declared.Act.{Act as Deed}
 use Rattle.heap_model.specs.declared.Act.TheVariants as acts
 use Rattle.heap_model.specs.declared.Entry.{Entry}
 use Rattle.heap_model.specs.declared.What.TheVariants as whats
-use Rattle.heap_model.specs.State.{Setting, GateAndLocks, is_caller, gate_word, caller_word, holds}
+use Rattle.heap_model.specs.State.{Setting, GateAndLocks, is_caller, gate_word, caller_word}
 use Rattle.heap_model.specs.Stay.{for_some}
 use Rattle.heap_model.specs.CallState.{Configuration, CallerView, CallState, caller_view, is_outside, holds_none}
 use Rattle.heap_model.specs.Legal.{may, after, is_lock_or_compact, may_unlock, gate_blocked}
 use Rattle.heap_model.specs.History.{configuration_after, configuration_of}
 use Rattle.heap_model.specs.Agreement.{AgreesFor}
-use Rattle.heap_model.proofs.GateSound.{none_held}
 use Rattle.heap_model.proofs.Stable.{caller_view_same}
-use Rattle.claim_rule.specs.declared.views.Opening.{Opening}
+use Rattle.heap_model.specs.declared.Opening.{Opening}
 use Rattle.claim_rule.specs.declared.views.View.{View}
-use Rattle.claim_rule.specs.Home.{LayerState}
+use Rattle.heap_model.specs.Layers.{LayerState}
 use Rattle.claim_rule.specs.Entries.{IsSettingOf, entry}
 use Rattle.claim_rule.specs.Rule.{IsRuled, IsReady, ready_after}
 use Rattle.claim_rule.specs.Steps.{MayTryLock, MayGiveUp}
@@ -86,11 +85,11 @@ module _ {T : Type 0} (stands : T → LayerState) (o : Opening) where
         one_follows s m n acts.Lock b.whole (for_some_is (m.now.calls n).call is_lock_or_compact p.call) (eq-eqb (gate_word m.state.gate) 0 zero),
         refl,
         all_gate o.limits r.lead.counted (after s m (entry n acts.Lock)) m _ st.words (65536 * (n + 1))
-            (record { lfh = refl; words = refl; active = refl; spans = refl; hints = λ k b t. refl; makers = λ f k. refl }) refl (λ e k j. absurd (no_owner m.state.gate e zero j)) y b.words,
+            (record { lfh = refl; words = refl; active = refl; spans = refl; hints = λ k b t. refl; makers = λ f k. refl }) refl y b.words,
         homes_kept stands o (after s m (entry n acts.Lock)).state m.state st.homes (record { locks = refl; vs = λ _. refl; spans = λ _. refl; back = λ _. refl; large = λ _. refl }) b.home,
       )) in
       let W : View = a.0 in
-      (W, keeps, tt, a.1, (subst (λ (d : Deed). Adds es d me (W, me.1)) (sym (ap (λ (b : Bool). cond b acts.Lock (acts.Blocked whats.Gate x)) (eq-eqb x 0 z))) (adds_of me (W, me.1) n es acts.Lock h.role a.2), refl))
+      (W, keeps, tt, a.1, (subst (λ (d : Deed). Adds es d me (W, me.1)) (sym (ap (λ (b : Bool). cond b acts.Lock (acts.Blocked whats.Gate x)) (eq-eqb x 0 z))) (adds_of me (W, me.1) n es acts.Lock h.role a.2), refl, a.3))
 
   lock_miss : (slots id n : ℕ) (me : Me (Option T) View) (es : List Entry) → IsReady n me.0 es
       → ((s : Setting) → IsSettingOf me.0.opening me.0.roll s → MayTryLock (ready_after s me.0 es) n)
@@ -113,7 +112,7 @@ module _ {T : Type 0} (stands : T → LayerState) (o : Opening) where
         homes_kept stands o (after s m (entry n (acts.Blocked whats.Gate x))).state m.state st.homes (record { locks = ap (λ (f : GateAndLocks). f.locks) same; vs = λ _. refl; spans = λ _. refl; back = λ _. refl; large = λ _. refl }) b.home,
       )) in
       let W : View = a.0 in
-      (W, keeps, tt, a.1, (subst (λ (d : Deed). Adds es d me (W, me.1)) (sym (ap (λ (b : Bool). cond b acts.Lock (acts.Blocked whats.Gate x)) (ne_eqb x 0 z))) (adds_of me (W, me.1) n es (acts.Blocked whats.Gate x) h.role a.2), refl))
+      (W, keeps, tt, a.1, (subst (λ (d : Deed). Adds es d me (W, me.1)) (sym (ap (λ (b : Bool). cond b acts.Lock (acts.Blocked whats.Gate x)) (ne_eqb x 0 z))) (adds_of me (W, me.1) n es (acts.Blocked whats.Gate x) h.role a.2), refl, a.3))
 
   pub locks : (slots id n : ℕ) (me : Me (Option T) View) (es : List Entry) → IsReady n me.0 es
       → ((s : Setting) → IsSettingOf me.0.opening me.0.roll s → MayTryLock (ready_after s me.0 es) n)
@@ -148,8 +147,7 @@ module _ {T : Type 0} (stands : T → LayerState) (o : Opening) where
         refl,
         all_gate o.limits r.lead.counted (after s m (entry n acts.Unlock)) m _ st.words ((x + (18446744073709551616 - 65536 * (n + 1))) % 18446744073709551616)
             (record { lfh = refl; words = refl; active = refl; spans = refl; hints = λ k b t. refl; makers = λ f k. refl }) refl
-            (λ e k j. absurd (both_ways (holds m.state.gate n whats.Back) (none_held (caller_view m n) whats.Back parts.1) (ap (is_caller n) k ∙ eq-eqb e n (some_same e n (sym j ∙ mine)))))
             y b.words,
         homes_kept stands o (after s m (entry n acts.Unlock)).state m.state st.homes (record { locks = refl; vs = λ _. refl; spans = λ _. refl; back = λ _. refl; large = λ _. refl }) b.home,
       )) in
-      (a.0, keeps, tt, a.1, (adds_of me (a.0, me.1) n es acts.Unlock h.role a.2, refl))
+      (a.0, keeps, tt, a.1, (adds_of me (a.0, me.1) n es acts.Unlock h.role a.2, refl, a.3))

@@ -1,5 +1,5 @@
 -- What seats know when the history grows by entries of one caller, and when the views change.
-use Rattle.std.proofs.Common.{◌≡◌, ◌≢◌, ◌⊎◌, ℕ, zero, suc, ◌+◌, ◌<◌, true, false, List, [], ◌∷◌, ◌++◌, length, set, refl, sym, ap, ◌∙◌, subst, ⊎_elim, inl, inr}
+use Rattle.std.proofs.Common.{◌≡◌, ◌≢◌, ◌⊎◌, ℕ, zero, suc, ◌+◌, ◌<◌, true, false, List, [], ◌∷◌, ◌++◌, length, set, refl, sym, ap, ◌∙◌, subst, ⊎_elim, inl, inr, Some, None}
 use Rattle.std.proofs.lemmas.List.{append-nil}
 use Rattle.std.proofs.lemmas.Bool.{true≢false}
 use mathlib.Core.Option.{some, some-injective, some-ne-none}
@@ -10,14 +10,17 @@ use Rattle.heap_model.specs.declared.Entry.{Entry}
 use Rattle.heap_model.specs.State.{is_among}
 use Rattle.heap_model.specs.History.{own}
 use Rattle.claim_rule.specs.declared.views.Assignment.{Assignment}
-use Rattle.claim_rule.specs.declared.views.Opening.{Opening}
+use Rattle.heap_model.specs.declared.Opening.{Opening}
 use Rattle.claim_rule.specs.declared.views.Lead.{Lead}
+use Rattle.claim_rule.specs.declared.views.Owed.{Owed}
 use Rattle.claim_rule.specs.declared.views.Role.{Role}
 use Rattle.claim_rule.specs.declared.views.Role.TheVariants.{Nobody, Caller, Root}
 use Rattle.claim_rule.specs.declared.views.View.{View}
+use Rattle.claim_rule.specs.Shown.{back_holder}
 use Rattle.claim_rule.specs.Entries.{is_by}
 use Rattle.claim_rule.specs.Rule.{IsSeen, KnowsAs, Knows, view_of}
 use Rattle.claim_rule.proofs.Lists.{own-append, own_by_other, prefix_more, prefix_nil, prefix_trans}
+use Rattle.claim_rule.proofs.Holders.{holder-append, holder_other}
 
 -- one view of the list is another
 pub swapped : (P Q : ℕ → View → Type 0) (views : List View) (id : ℕ) (w : View) → ((j : ℕ) (v : View) → j ≢ id → P j v → Q j v) → ((j : ℕ) (v : View) → get_elem? views j ≡ some v → P j v) → Q id w
@@ -53,38 +56,48 @@ seen_none o log lead = record { list_begins = prefix_nil log; roll_begins = pref
 
 ---- The history grows by entries of n
 
-module _ (o : Opening) (log : List Entry) (lead : Lead) (top : ℕ) (owner : ℕ → ℕ) (n id : ℕ) (mine : owner n ≡ id) (here : is_among n lead.joined ≡ false) (es : List Entry) (b : is_by n es ≡ true) where
+module _ (o : Opening) (log : List Entry) (lead : Lead) (top : ℕ) (owner : ℕ → ℕ) (n id : ℕ) (mine : owner n ≡ id) (here : is_among n lead.joined ≡ false) (es : List Entry) (b : is_by n es ≡ true)
+    (owes owes' : List Owed) (still : (owes' ≡ owes) ⊎ (back_holder (log ++ es) ≡ Some n)) where
+  -- what another seat knows to owe stays
+  owed_on : (m : ℕ) (mine : List Owed) → n ≢ m → (back_holder log ≡ Some m → mine ≡ owes) → back_holder (log ++ es) ≡ Some m → mine ≡ owes'
+  owed_on m mine ne k e = ⊎_elim
+      (λ (t : owes' ≡ owes). k (holder_other n m (back_holder log) es ne b (sym (holder-append None log es) ∙ e)) ∙ sym t)
+      (λ (t : back_holder (log ++ es) ≡ Some n). absurd (ne (let z : Some n ≡ Some m = sym t ∙ e in cc (z))))
+      still
+
   -- another seat knows as much
-  role_on : (j : ℕ) (v : View) (role : Role) → j ≢ id → KnowsAs o log lead top owner j v role → KnowsAs o (log ++ es) lead top owner j v role
+  role_on : (j : ℕ) (v : View) (role : Role) → j ≢ id → KnowsAs o log lead top owner owes j v role → KnowsAs o (log ++ es) lead top owner owes' j v role
   role_on j v Nobody ne k = tt
-  role_on j v (Caller m) ne k = (k.0, k.1, k.2, own_kept m n log v.seen es (λ e. ne (sym k.1 ∙ (ap owner (sym e) ∙ mine))) b k.3, k.4)
+  role_on j v (Caller m) ne k =
+      let no : n ≢ m = λ e. ne (sym k.1 ∙ (ap owner (sym e) ∙ mine)) in
+      (k.0, k.1, k.2, own_kept m n log v.seen es no b k.3, k.4, owed_on m v.owes no k.5)
   role_on j v (Root q) ne k =
       let other : (m : ℕ) → is_among m lead.joined ≡ true → n ≢ m = λ m t e. true≢false (sym (ap (λ (x : ℕ). is_among x lead.joined) e ∙ t) ∙ here) in
       (k.0, k.1, (λ m t. ⊎_elim (λ (e : lead.last ≡ m + 1). inl e) (λ (e : own m log ≡ own m v.seen). inr (own_kept m n log v.seen es (other m t) b e)) (k.2 m t)), (λ m t. let z = k.3 m t in (z.0, own_kept m n log v.heard es (other m z.0) b z.1)), k.4)
 
-  knows_on : (j : ℕ) (v : View) → j ≢ id → Knows o log lead top owner j v → Knows o (log ++ es) lead top owner j v
+  knows_on : (j : ℕ) (v : View) → j ≢ id → Knows o log lead top owner owes j v → Knows o (log ++ es) lead top owner owes' j v
   knows_on j v ne k = record { seen = seen_on o log es lead v.roll v.seen k.seen; heard = seen_on o log es lead v.heard_roll v.heard k.heard; role = role_on j v v.role ne k.role }
 
-  pub known_set : (views : List View) (w : View) → ((j : ℕ) (v : View) → get_elem? views j ≡ some v → Knows o log lead top owner j v) → Knows o (log ++ es) lead top owner id w
-      → (j : ℕ) (v : View) → get_elem? (set views id w) j ≡ some v → Knows o (log ++ es) lead top owner j v
-  known_set views w all new = swapped (Knows o log lead top owner) (Knows o (log ++ es) lead top owner) views id w knows_on all new
+  pub known_set : (views : List View) (w : View) → ((j : ℕ) (v : View) → get_elem? views j ≡ some v → Knows o log lead top owner owes j v) → Knows o (log ++ es) lead top owner owes' id w
+      → (j : ℕ) (v : View) → get_elem? (set views id w) j ≡ some v → Knows o (log ++ es) lead top owner owes' j v
+  known_set views w all new = swapped (Knows o log lead top owner owes) (Knows o (log ++ es) lead top owner owes') views id w knows_on all new
 
 pub seen_still : (o : Opening) (log : List Entry) (lead lead' : Lead) (roll : List Assignment) (list : List Entry) → IsPrefix lead.roll lead'.roll → IsSeen o log lead roll list → IsSeen o log lead' roll list
 seen_still o log lead lead' roll list more h = record { list_begins = h.list_begins; roll_begins = prefix_trans roll lead.roll lead'.roll h.roll_begins more; legal = h.legal }
 
 ---- A seat that is not the root's goes on where the callers' facts do
 
-module _ (o : Opening) (log : List Entry) (lead lead' : Lead) (top : ℕ) (owner owner' : ℕ → ℕ) (j : ℕ) (far : top ≢ j) (more : IsPrefix lead.roll lead'.roll)
+module _ (o : Opening) (log : List Entry) (lead lead' : Lead) (top : ℕ) (owner owner' : ℕ → ℕ) (owes : List Owed) (j : ℕ) (far : top ≢ j) (more : IsPrefix lead.roll lead'.roll)
     (on : (m : ℕ) → m < length lead.roll → owner m ≡ j → is_among m lead.joined ≡ false → (m < length lead'.roll) × (owner' m ≡ j) × (is_among m lead'.joined ≡ false)) where
-  role_still : (v : View) (role : Role) → KnowsAs o log lead top owner j v role → KnowsAs o log lead' top owner' j v role
+  role_still : (v : View) (role : Role) → KnowsAs o log lead top owner owes j v role → KnowsAs o log lead' top owner' owes j v role
   role_still v Nobody k = tt
-  role_still v (Caller m) k = let t = on m k.0 k.1 k.2 in (t.0, t.1, t.2, k.3, k.4)
+  role_still v (Caller m) k = let t = on m k.0 k.1 k.2 in (t.0, t.1, t.2, k.3, k.4, k.5)
   role_still v (Root q) k = absurd (far k.1)
 
-  pub knows_still : (v : View) → Knows o log lead top owner j v → Knows o log lead' top owner' j v
+  pub knows_still : (v : View) → Knows o log lead top owner owes j v → Knows o log lead' top owner' owes j v
   knows_still v k = record { seen = seen_still o log lead lead' v.roll v.seen more k.seen; heard = seen_still o log lead lead' v.heard_roll v.heard more k.heard; role = role_still v v.role k.role }
 
 -- nobody sits on the seat
-pub nobody : (o : Opening) (log : List Entry) (lead : Lead) (top : ℕ) (owner : ℕ → ℕ) (j : ℕ) (a : Opening) (roll heard_roll : List Assignment) (seen heard : List Entry) → IsSeen o log lead roll seen → IsSeen o log lead heard_roll heard
-    → Knows o log lead top owner j (view_of a Nobody roll seen heard_roll heard)
-nobody o log lead top owner j a roll heard_roll seen heard p q = record { seen = p; heard = q; role = tt }
+pub nobody : (o : Opening) (log : List Entry) (lead : Lead) (top : ℕ) (owner : ℕ → ℕ) (owes : List Owed) (j : ℕ) (a : Opening) (roll heard_roll : List Assignment) (seen heard : List Entry) → IsSeen o log lead roll seen → IsSeen o log lead heard_roll heard
+    → Knows o log lead top owner owes j (view_of a Nobody roll seen heard_roll heard [])
+nobody o log lead top owner owes j a roll heard_roll seen heard p q = record { seen = p; heard = q; role = tt }

@@ -10,7 +10,7 @@ use Rattle.heap_model.specs.CallState.{Configuration, Demand, Nothing}
 use Rattle.heap_model.specs.Legal.{may_follow, after}
 use Rattle.heap_model.specs.History.{configuration_after, configuration_of, first_configuration, may_all_follow, is_nothing, is_legal, own}
 use Rattle.claim_rule.specs.declared.views.Assignment.{Assignment}
-use Rattle.claim_rule.specs.declared.views.Opening.{Opening}
+use Rattle.heap_model.specs.declared.Opening.{Opening}
 use Rattle.claim_rule.specs.Entries.{slot_at, stream_at, IsSettingOf, is_by, is_named}
 use Rattle.claim_rule.specs.Rule.{longer}
 

@@ -16,11 +16,12 @@ use Rattle.heap_model.proofs.GateSound.{row_of}
 use Rattle.heap_model.proofs.Agreement.{agrees_prepared}
 use Rattle.heap_model.proofs.Others.{unspan_locks}
 use Rattle.heap_model.proofs.Stable.{same_hand_at, locked_place_at}
-use Rattle.claim_rule.specs.declared.views.Opening.{Opening}
-use Rattle.claim_rule.specs.Shown.{Lag, lag_from, lag_after, lfh_spans}
-use Rattle.claim_rule.specs.Home.{LayerState, AreHome, StandsForVs, StandsForBack, StandsForLarge}
+use Rattle.heap_model.specs.declared.Opening.{Opening}
+use Rattle.claim_rule.specs.Shown.{holder_from, held_after, lfh_spans}
+use Rattle.heap_model.specs.Layers.{LayerState, StandsForVs, StandsForBack, StandsForLarge}
+use Rattle.claim_rule.specs.Home.{AreHome}
 use Rattle.claim_rule.specs.Entries.{entry, is_by, is_of_lfh, leaves_words, may_prepare, are_prepared}
-use Rattle.claim_rule.proofs.Quiet.{SameShown, same_shown, same_shown_trans, leaves, leaves_gate, leaves_lag}
+use Rattle.claim_rule.proofs.Quiet.{SameShown, same_shown, same_shown_trans, leaves, leaves_gate, leaves_holder}
 use Rattle.claim_rule.proofs.Homes.{vs_kept, back_kept, large_kept, spans_kept}
 
 ---- What the slots at home stand for
@@ -51,11 +52,11 @@ homes_kept stands o m n homes r h = record {
   vs = λ z.
       let z' = sym (ap (λ (k : Locks). k.vs) r.locks) ∙ z in
       let t = h.vs z' in
-      (t.0, t.1, record { lock = t.2.lock; limits = t.2.limits; key = t.2.key; part = t.2.part ∙ sym (ap Rattle.claim_rule.specs.Home.sorted_vs (r.vs z')); spans = t.2.spans ∙ sym (r.spans z') });
+      (t.0, t.1, record { lock = t.2.lock; limits = t.2.limits; key = t.2.key; part = t.2.part ∙ sym (ap Rattle.heap_model.specs.Layers.sorted_vs (r.vs z')); spans = t.2.spans ∙ sym (r.spans z') });
   back = λ z.
       let z' = sym (ap (λ (k : Locks). k.back) r.locks) ∙ z in
       let t = h.back z' in
-      (t.0, t.1, record { lock = t.2.lock; limits = t.2.limits; part = t.2.part ∙ sym (ap Rattle.claim_rule.specs.Home.sorted_back (r.back z')) });
+      (t.0, t.1, record { lock = t.2.lock; limits = t.2.limits; part = t.2.part ∙ sym (ap Rattle.heap_model.specs.Layers.sorted_back (r.back z')) });
   large = λ z.
       let z' = sym (ap (λ (k : Locks). k.large) r.locks) ∙ z in
       let t = h.large z' in
@@ -114,10 +115,10 @@ module _ (s : Setting) (c : ℕ) where
     pub shown : SameShown (configuration_after s m es) m
     pub gate : (configuration_after s m es).state.gate ≡ m.state.gate
     pub homes : SameHomes (configuration_after s m es).state m.state
-    pub lag : (g : Lag) → lag_from g es ≡ g
+    pub holder : (h : Option ℕ) → holder_from h es ≡ h
 
   pub carried : (m n : Configuration) (es : List Entry) → AgreesFor c m n → m.now.demand ≡ n.now.demand → are_prepared s n c es ≡ true → IsCarried m n es
-  carried m n [] r d h = record { follows = refl; agrees = r; demand = d; shown = same_shown m; gate = refl; homes = same_homes m.state; lag = λ g. refl }
+  carried m n [] r d h = record { follows = refl; agrees = r; demand = d; shown = same_shown m; gate = refl; homes = same_homes m.state; holder = λ h. refl }
   carried m n (e ∷ es) r d h =
       let p = ready_entry n e (are_prepared s (after s n e) c es) h in
       let is : e ≡ entry c e.act = ap (λ (x : ℕ). entry x e.act) p.0.by in
@@ -134,5 +135,5 @@ module _ (s : Setting) (c : ℕ) where
         shown = same_shown_trans (configuration_after s (after s m (entry c e.act)) es) (after s m (entry c e.act)) m rest.shown (leaves s m c e.act q);
         gate = rest.gate ∙ leaves_gate s m c e.act q;
         homes = same_homes_trans (configuration_after s (after s m (entry c e.act)) es).state (after s m (entry c e.act)).state m.state rest.homes (homes_act m e.act q (row_of s m (entry c e.act) f));
-        lag = λ g. rest.lag (lag_after g (entry c e.act) e.act) ∙ leaves_lag s m c g e.act q;
+        holder = λ h. rest.holder (held_after h (entry c e.act) e.act) ∙ leaves_holder s m c h e.act q;
       })

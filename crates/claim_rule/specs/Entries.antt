@@ -14,7 +14,7 @@ use Rattle.heap_model.specs.Legal.{may_follow, after}
 use Rattle.heap_model.specs.History.{is_legal}
 use Rattle.heap_model.specs.Agreement.{is_stable}
 use Rattle.claim_rule.specs.declared.views.Assignment.{Assignment}
-use Rattle.claim_rule.specs.declared.views.Opening.{Opening}
+use Rattle.heap_model.specs.declared.Opening.{Opening}
 use Rattle.claim_rule.specs.Shown.{lfh_spans}
 
 -- the slot and the stream of a caller

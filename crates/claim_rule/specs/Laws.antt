@@ -1,5 +1,5 @@
 -- The laws, in words of the table: a step that is allowed keeps the rule whatever the table is by then, and tells its seat what its kind says.
-use Rattle.std.specs.Prelude.{◌≡◌, ℕ, ◌+◌, ◌-◌, ◌*◌, ◌%◌, ◌^◌, ◌<◌, ◌≤◌, true, eqb, List, [], ◌∷◌, length, set, Option, Some}
+use Rattle.std.specs.Prelude.{◌≡◌, ℕ, ◌+◌, ◌-◌, ◌*◌, ◌%◌, ◌^◌, ◌<◌, ◌≤◌, ◌⊎◌, true, eqb, List, [], ◌∷◌, ◌++◌, length, set, Option, Some}
 use mathlib.Core.Option.{none, some}
 use lib.ListN.{get_elem?}
 use prog.Atomic.{either}
@@ -12,13 +12,15 @@ use Rattle.heap_model.specs.CallState.{Configuration, Nothing}
 use Rattle.heap_model.specs.History.{configuration_after, configuration_of, may_all_follow}
 use Rattle.heap_model.specs.Agreement.{AgreesFor, GateIsSound}
 use Rattle.claim_rule.specs.declared.views.Assignment.{Assignment}
-use Rattle.claim_rule.specs.declared.views.Opening.{Opening}
+use Rattle.heap_model.specs.declared.Opening.{Opening}
 use Rattle.claim_rule.specs.declared.views.Lead.{Lead}
+use Rattle.claim_rule.specs.declared.views.Owed.{Owed}
 use Rattle.claim_rule.specs.declared.views.Role.TheVariants.{Caller, Root}
 use Rattle.claim_rule.specs.declared.views.View.{View}
 use Rattle.claim_rule.specs.Places.{Fill, regions, word_count, gate_at, made_word}
-use Rattle.claim_rule.specs.Shown.{Lag, lag_from, lag_of, AreAllShown}
-use Rattle.claim_rule.specs.Home.{LayerState, AreHome, StandsForVs, StandsForBack, StandsForLarge}
+use Rattle.claim_rule.specs.Shown.{AreAllShown, back_holder}
+use Rattle.heap_model.specs.Layers.{LayerState, StandsForVs, StandsForBack, StandsForLarge}
+use Rattle.claim_rule.specs.Home.{AreHome}
 use Rattle.claim_rule.specs.Entries.{IsSettingOf, is_by, are_prepared}
 use Rattle.claim_rule.specs.Rule.{IsRuled, IsReady, ready_after, zero_words, first_view, spent_view, relay, dealing, dealt, told, taken_in}
 use Rattle.claim_rule.specs.Steps.{MayPass, MayGoOut, MayTryLock, MayGiveUp}
@@ -40,7 +42,7 @@ module _ {T : Type 0} (stands : T → LayerState) where
     pub agrees : AgreesFor c (configuration_after s m es) (configuration_after s n es)
     pub demand : (configuration_after s m es).now.demand ≡ (configuration_after s n es).now.demand
     pub gate : (configuration_after s m es).state.gate ≡ m.state.gate
-    pub words : (l : Limits) (made : ℕ) (g : Lag) (words : List ℕ) → AreAllShown l made m g words → AreAllShown l made (configuration_after s m es) g words
+    pub words : (l : Limits) (made : ℕ) (owes : List Owed) (words : List ℕ) → AreAllShown l made m owes words → AreAllShown l made (configuration_after s m es) owes words
     pub homes : (o : Opening) (homes : List (mathlib.Core.Option.Option (Option T))) → AreHome stands o m.state homes → AreHome stands o (configuration_after s m es).state homes
 
   abbrev pub PreparedIsCarried : Type 0
@@ -53,28 +55,33 @@ module _ {T : Type 0} (stands : T → LayerState) where
     pub record IsFound (n : ℕ) (ready : Configuration) : Type 0 where
       pub agrees : AgreesFor n m ready
       pub whole : m.now.demand ≡ Nothing
-      pub words : AreAllShown o.limits r.lead.counted m (lag_of r.log) st.words
+      pub words : AreAllShown o.limits r.lead.counted m r.owes st.words
       pub home : AreHome stands o m.state st.homes
       pub gate : GateIsSound m.state.gate
       pub few : length m.state.gate.counted ≤ length r.lead.roll
       pub owner : caller_word m.state.gate.owner ≤ length r.lead.roll
 
     -- What the step leaves: its own entries may come there, and the words and the slots that it leaves show what is behind them.
-    pub record IsLeft (own_entries : List Entry) (words : List ℕ) (homes : List (mathlib.Core.Option.Option (Option T))) : Type 0 where
+    pub record IsLeft (own_entries : List Entry) (owes : List Owed) (words : List ℕ) (homes : List (mathlib.Core.Option.Option (Option T))) : Type 0 where
       pub follows : may_all_follow s m own_entries ≡ true
       pub whole : (configuration_after s m own_entries).now.demand ≡ Nothing
-      pub shown : AreAllShown o.limits r.lead.counted (configuration_after s m own_entries) (lag_from (lag_of r.log) own_entries) words
+      pub shown : AreAllShown o.limits r.lead.counted (configuration_after s m own_entries) owes words
       pub home : AreHome stands o (configuration_after s m own_entries).state homes
+
+  -- What the step leaves owed: as it was, or as the holder of Back says; and that is what its own seat knows.
+  pub record IsOwing (n : ℕ) (before owes mine : List Owed) (log : List Entry) : Type 0 where
+    pub same : (owes ≡ before) ⊎ (back_holder log ≡ Some n)
+    pub known : back_holder log ≡ Some n → mine ≡ owes
 
   -- A step of a caller that finds this and leaves that keeps the rule, and the caller has seen the whole history with its entries behind.
   abbrev pub ActsLaw : Type 0
   ActsLaw =
-      (o : Opening) (st : State (Option T) View) (r : IsRuled stands o st) (id n : ℕ) (v : View) (es own_entries : List Entry) (c : List (ℕ × Option T)) (i x : ℕ) (a : Act (Option T))
-      → get_elem? st.views id ≡ some v → IsReady n v es → is_by n own_entries ≡ true
+      (o : Opening) (st : State (Option T) View) (r : IsRuled stands o st) (id n : ℕ) (v : View) (es own_entries : List Entry) (c : List (ℕ × Option T)) (i x : ℕ) (a : Act (Option T)) (owes mine : List Owed)
+      → get_elem? st.views id ≡ some v → IsReady n v es → is_by n own_entries ≡ true → IsOwing n r.owes owes mine (r.log ++ (es ++ own_entries))
       → ((s : Setting) → IsSettingOf o r.lead.roll s →
       IsFound o st r s (configuration_after s (configuration_of s r.log) es) n (ready_after s v es)
-      → IsLeft o st r s (configuration_after s (configuration_of s r.log) es) own_entries (set st.words i x) (homes_after st.homes c a))
-      → (w : View) × IsRuled stands o (stepped st i x id c w a) × Goes n v w es own_entries
+      → IsLeft o st r s (configuration_after s (configuration_of s r.log) es) own_entries owes (set st.words i x) (homes_after st.homes c a))
+      → (w : View) × IsRuled stands o (stepped st i x id c w a) × Goes n v w es own_entries × (w.owes ≡ mine) × (w.seen ≡ r.log ++ (es ++ own_entries)) × (w.roll ≡ r.lead.roll)
 
   -- A new table, whose slots have the states of an empty heap.
   abbrev pub OpenLaw : Type 0

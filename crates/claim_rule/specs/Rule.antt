@@ -1,5 +1,5 @@
 -- The rule: there is one legal history, the words and the slots show the configuration behind it, and each seat has seen a beginning of it.
-use Rattle.std.specs.Prelude.{◌≡◌, ◌⊎◌, ℕ, ◌+◌, ◌<◌, ◌≤◌, Bool, true, false, not, ◌&&◌, cond, List, [], ◌∷◌, ◌++◌, length, replicate, nat_lt, Option}
+use Rattle.std.specs.Prelude.{◌≡◌, ◌⊎◌, ℕ, ◌+◌, ◌<◌, ◌≤◌, Bool, true, false, not, ◌&&◌, cond, List, [], ◌∷◌, ◌++◌, length, replicate, nat_lt, Option, Some}
 use mathlib.Core.Option.{some}
 use mathlib.Core.List.{IsPrefix}
 use lib.ListN.{get_elem?}
@@ -10,13 +10,15 @@ use Rattle.heap_model.specs.State.{Setting, is_among}
 use Rattle.heap_model.specs.CallState.{Configuration, Nothing}
 use Rattle.heap_model.specs.History.{configuration_after, configuration_of, is_legal, own}
 use Rattle.claim_rule.specs.declared.views.Assignment.{Assignment}
-use Rattle.claim_rule.specs.declared.views.Opening.{Opening}
+use Rattle.heap_model.specs.declared.Opening.{Opening}
 use Rattle.claim_rule.specs.declared.views.Lead.{Lead}
+use Rattle.claim_rule.specs.declared.views.Owed.{Owed}
 use Rattle.claim_rule.specs.declared.views.Role.{Role}
 use Rattle.claim_rule.specs.declared.views.Role.TheVariants.{Nobody, Caller, Root}
 use Rattle.claim_rule.specs.declared.views.View.{View}
-use Rattle.claim_rule.specs.Shown.{AreAllShown, lag_of}
-use Rattle.claim_rule.specs.Home.{LayerState, AreHome}
+use Rattle.claim_rule.specs.Shown.{AreAllShown, back_holder}
+use Rattle.heap_model.specs.Layers.{LayerState}
+use Rattle.claim_rule.specs.Home.{AreHome}
 use Rattle.claim_rule.specs.Entries.{IsSettingOf, IsLegalWith, have_slots, is_named, are_prepared}
 
 -- of two beginnings of one list the longer
@@ -32,13 +34,14 @@ module _ (o : Opening) (log : List Entry) (lead : Lead) where
     pub roll_begins : IsPrefix roll lead.roll
     pub legal : IsLegalWith o roll list
 
-  module _ (top : ℕ) (owner : ℕ → ℕ) (seat : ℕ) where
-    -- .. and by its role. Of a caller all entries were seen on its own seat. Of a caller that has joined the root has seen all entries, or has
+  module _ (top : ℕ) (owner : ℕ → ℕ) (owes : List Owed) (seat : ℕ) where
+    -- .. and by its role. Of a caller all entries were seen on its own seat, and where it holds Back it knows what it owes. Of a caller that has joined the root has seen all entries, or has
     -- heard of them since it last looked.
     abbrev pub KnowsAs : View → Role → Type 0
     KnowsAs v Nobody = Unit {0}
     KnowsAs v (Caller n) =
         (n < length lead.roll) × (owner n ≡ seat) × (is_among n lead.joined ≡ false) × (own n log ≡ own n v.seen) × (v.opening ≡ o)
+        × (back_holder log ≡ Some n → v.owes ≡ owes)
     KnowsAs v (Root q) =
         (q ≡ lead) × (top ≡ seat) × ((n : ℕ) → is_among n lead.joined ≡ true → (lead.last ≡ n + 1) ⊎ (own n log ≡ own n v.seen))
         × ((n : ℕ) → lead.last ≡ n + 1 → (is_among n lead.joined ≡ true) × (own n log ≡ own n v.heard)) × (v.opening ≡ o)
@@ -66,9 +69,9 @@ pub record AreNumbered (o : Opening) (lead : Lead) (log : List Entry) : Type 0 w
 
 module _ {T : Type 0} (stands : T → LayerState) (o : Opening) (st : State (Option T) View) where
   -- the list is legal, and the words and the slots show what is behind it
-  pub record IsShownIn (log : List Entry) (counted : ℕ) (s : Setting) : Type 0 where
+  pub record IsShownIn (log : List Entry) (counted : ℕ) (owes : List Owed) (s : Setting) : Type 0 where
     pub legal : is_legal s log ≡ true
-    pub words : AreAllShown o.limits counted (configuration_of s log) (lag_of log) st.words
+    pub words : AreAllShown o.limits counted (configuration_of s log) owes st.words
     pub home : AreHome stands o (configuration_of s log).state st.homes
 
   pub record IsRuled : Type 0 where
@@ -76,9 +79,10 @@ module _ {T : Type 0} (stands : T → LayerState) (o : Opening) (st : State (Opt
     pub lead : Lead
     pub top : ℕ
     pub owner : ℕ → ℕ
+    pub owes : List Owed
     pub numbers : AreNumbered o lead log
-    pub shown : (s : Setting) → IsSettingOf o lead.roll s → IsShownIn log lead.counted s
-    pub known : (seat : ℕ) (v : View) → get_elem? st.views seat ≡ some v → Knows o log lead top owner seat v
+    pub shown : (s : Setting) → IsSettingOf o lead.roll s → IsShownIn log lead.counted owes s
+    pub known : (seat : ℕ) (v : View) → get_elem? st.views seat ≡ some v → Knows o log lead top owner owes seat v
 
 -- the words of a new table
 abbrev pub zero_words : ℕ → List ℕ
@@ -89,19 +93,19 @@ zero_words n = replicate n 0
 abbrev pub first_lead : Lead
 first_lead = record { counted = 0; roll = []; joined = []; lists = []; last = 0 }
 
-abbrev pub view_of : Opening → Role → List Assignment → List Entry → List Assignment → List Entry → View
-view_of o role roll seen heard_roll heard =
-    record { role = role; opening = o; roll = roll; seen = seen; heard_roll = heard_roll; heard = heard }
+abbrev pub view_of : Opening → Role → List Assignment → List Entry → List Assignment → List Entry → List Owed → View
+view_of o role roll seen heard_roll heard owes =
+    record { role = role; opening = o; roll = roll; seen = seen; heard_roll = heard_roll; heard = heard; owes = owes }
 
 abbrev pub first_view : Opening → View
-first_view o = view_of o (Root first_lead) [] [] [] []
+first_view o = view_of o (Root first_lead) [] [] [] [] []
 
 abbrev pub spent_view : View
-spent_view = view_of (record { limits = record { segments = 0; large_pages = 0; slots = 0; callers = 0 }; seed = 0 }) Nobody [] [] [] []
+spent_view = view_of (record { limits = record { segments = 0; large_pages = 0; slots = 0; callers = 0 }; seed = 0 }) Nobody [] [] [] [] []
 
 -- a seat that tells of what v has seen
 abbrev pub relay : View → View
-relay v = view_of v.opening Nobody v.roll v.seen [] []
+relay v = view_of v.opening Nobody v.roll v.seen [] [] []
 
 abbrev pub next_lead : Assignment → Lead → Lead
 next_lead a q = record { counted = q.counted; roll = q.roll ++ a ∷ []; joined = q.joined; lists = q.lists; last = q.last }
@@ -119,11 +123,11 @@ roll_of (Root q) = q.roll
 roll_of _ = []
 
 abbrev pub dealing : Assignment → View → View
-dealing a v = view_of v.opening (dealing_role a v.role) v.roll v.seen v.heard_roll v.heard
+dealing a v = view_of v.opening (dealing_role a v.role) v.roll v.seen v.heard_roll v.heard v.owes
 
 -- the new caller has seen nothing but what the callers were made with
 abbrev pub dealt : Assignment → View → View
-dealt a v = view_of v.opening (dealt_role v.role) (roll_of v.role ++ a ∷ []) [] [] []
+dealt a v = view_of v.opening (dealt_role v.role) (roll_of v.role ++ a ∷ []) [] [] [] []
 
 -- the root with a caller that joins with a list
 abbrev pub joined_role : List Entry → Role → Role → Role
@@ -132,11 +136,11 @@ joined_role list r _ = r
 
 -- v hears of what w has seen
 abbrev pub told : View → View → View
-told v w = view_of v.opening v.role v.roll v.seen w.roll w.seen
+told v w = view_of v.opening v.role v.roll v.seen w.roll w.seen v.owes
 
 -- .. and the root takes in the caller
 abbrev pub taken_in : View → View → View
-taken_in v w = view_of v.opening (joined_role w.seen v.role w.role) v.roll v.seen w.roll w.seen
+taken_in v w = view_of v.opening (joined_role w.seen v.role w.role) v.roll v.seen w.roll w.seen v.owes
 
 ---- What a caller has prepared
 

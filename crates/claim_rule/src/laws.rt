@@ -2,7 +2,7 @@
 
 ghost use Rattle.claim_rule.specs.Laws.{RegionsFill, LargestCount, PreparedIsCarried, ActsLaw, OpenLaw, SplitLaw, JoinLaw, LoadLaw, NumberLaw, EnterLaw, LeaveLaw, LockLaw, UnlockLaw};
 
-use crate::stands::Stands;
+use heap_model::Stands;
 
 /// The regions of the words do not overlap, and fill the table.
 pub fn regions_fill()

@@ -7,12 +7,10 @@
 pub mod laws;
 mod places;
 mod plays;
-mod stands;
 mod views;
 
 pub use places::{ACTIVE, GATE, HINTS, LOCKS, MADE, TAGS};
 pub use plays::{Agrees, Carried, Enters, Hears, Leaves, Locks, Looks, Numbers, Unlocks};
-pub use stands::Stands;
 pub use views::{
-    Assigned, Assignment, Deals, HeapRule, Lead, Opening, Relays, Role, TakesIn, Tells, View,
+    Assigned, Assignment, Deals, HeapRule, Lead, Owed, Relays, Role, TakesIn, Tells, View,
 };

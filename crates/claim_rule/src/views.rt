@@ -1,16 +1,8 @@
 //! What a seat knows. No value of these types is made, but for what a heap is opened with.
-use crate::stands::Stands;
 use atomic_table::{Join, Split, TableRule};
-use heap_model::{Entry, Limits};
+use heap_model::{Entry, Opening, Stands};
 use std::collections::LinkedList;
 use std::marker::{Brand, PhantomData};
-
-/// What a heap is opened with.
-#[derive(Clone, Copy, Debug, PartialEq, Eq)]
-pub struct Opening {
-    pub limits: Limits,
-    pub seed: u64,
-}
 
 /// What a caller was made with: its affinity slot, and the stream of its draws.
 #[derive(Clone, Copy, Debug, PartialEq, Eq)]
@@ -36,7 +28,15 @@ pub enum Role {
     Root(Lead),
 }
 
-/// A beginning of the history that was seen and one that was heard of, each with what the callers in it were made with.
+/// A word of the tags or of the hints that the holder of the back end's lock has still to bring up to date, and what it is
+/// by then.
+pub struct Owed {
+    pub word: u64,
+    pub value: u64,
+}
+
+/// A beginning of the history that was seen and one that was heard of, each with what the callers in it were made with,
+/// and while the caller holds the back end's lock the words that it owes.
 pub struct View {
     pub role: Role,
     pub opening: Opening,
@@ -44,6 +44,7 @@ pub struct View {
     pub seen: LinkedList<Entry>,
     pub heard_roll: LinkedList<Assignment>,
     pub heard: LinkedList<Entry>,
+    pub owes: LinkedList<Owed>,
 }
 
 /// The rule. `T` is a state of a layer, with what it stands for.

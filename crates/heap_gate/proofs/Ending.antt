@@ -14,12 +14,13 @@ use Rattle.heap_model.specs.History.{configuration_of, first_configuration, own}
 use Rattle.heap_model.proofs.GateSound.{gate_sound_first, none_held}
 use Rattle.heap_model.proofs.Others.{agrees_others}
 use Rattle.claim_rule.specs.declared.views.Assignment.{Assignment}
-use Rattle.claim_rule.specs.declared.views.Opening.{Opening}
+use Rattle.heap_model.specs.declared.Opening.{Opening}
 use Rattle.claim_rule.specs.declared.views.Lead.{Lead}
 use Rattle.claim_rule.specs.declared.views.View.{View}
 use Rattle.claim_rule.specs.Places.{vs_slot, back_slot, large_slot}
-use Rattle.claim_rule.specs.Shown.{AreAllShown, lag_of}
-use Rattle.claim_rule.specs.Home.{LayerState, AreHome, StandsForVs, StandsForBack, StandsForLarge}
+use Rattle.claim_rule.specs.Shown.{AreAllShown}
+use Rattle.heap_model.specs.Layers.{LayerState, StandsForVs, StandsForBack, StandsForLarge}
+use Rattle.claim_rule.specs.Home.{AreHome}
 use Rattle.claim_rule.specs.Entries.{IsSettingOf, is_named, setting_of}
 use Rattle.claim_rule.specs.Rule.{IsRuled}
 use Rattle.claim_rule.proofs.Lists.{own_unnamed, legal_parts}
@@ -42,7 +43,7 @@ of_joined m ns (e ∷ es) all h =
 module _ {T : Type 0} (stands : T → LayerState) (o : Opening) where
   pub record IsEnded (R : List Assignment) (l : List Entry) (ws : List ℕ) (xs : List (Option T)) : Type 0 where
     pub rest : IsAtRest (configuration_of (setting_of o R) l).state
-    pub words : AreAllShown o.limits (length R) (configuration_of (setting_of o R) l) (lag_of l) ws
+    pub words : AreAllShown o.limits (length R) (configuration_of (setting_of o R) l) [] ws
     pub vs : (t : T) × (get_elem? xs vs_slot ≡ some (Some t)) × StandsForVs o (configuration_of (setting_of o R) l).state (stands t)
     pub back : (t : T) × (get_elem? xs back_slot ≡ some (Some t)) × StandsForBack o (configuration_of (setting_of o R) l).state (stands t)
     pub large : (t : T) × (get_elem? xs large_slot ≡ some (Some t)) × StandsForLarge o (configuration_of (setting_of o R) l).state (stands t)
@@ -61,8 +62,6 @@ module _ {T : Type 0} (stands : T → LayerState) (o : Opening) where
       let shown = r.shown s ok in
       let m : Configuration = configuration_of s me.0.seen in
       let counted : r.lead.counted ≡ length R = ap (λ (x : Lead). x.counted) (sym p.0) in
-      let words : AreAllShown o.limits (length R) m (lag_of me.0.seen) ws =
-      subst (λ (w : List ℕ). AreAllShown o.limits (length R) m (lag_of me.0.seen) w) f.2 (subst (λ (x : ℕ). AreAllShown o.limits x m (lag_of me.0.seen) st.words) counted (subst (λ (l : List Entry). AreAllShown o.limits r.lead.counted (configuration_of s l) (lag_of l) st.words) same shown.words)) in
       let home : AreHome stands o m.state st.homes = subst (λ (l : List Entry). AreHome stands o (configuration_of s l).state st.homes) same shown.home in
       let legal = legal_parts s me.0.seen (subst (λ (l : List Entry). Rattle.heap_model.specs.History.is_legal s l ≡ true) same shown.legal) in
       let idle : (n : ℕ) → IsIdle n m =
@@ -78,6 +77,10 @@ module _ {T : Type 0} (stands : T → LayerState) (o : Opening) where
       let lfh : m.state.gate.locks.lfh ≡ None = none_is m.state.gate.locks.lfh (free whats.Lfh) in
       let vs : m.state.gate.locks.vs ≡ None = none_is m.state.gate.locks.vs (free whats.Vs) in
       let back : m.state.gate.locks.back ≡ None = none_is m.state.gate.locks.back (free whats.Back) in
+      let here : AreAllShown o.limits r.lead.counted m r.owes st.words = subst (λ (l : List Entry). AreAllShown o.limits r.lead.counted (configuration_of s l) r.owes st.words) same shown.words in
+      let paid : r.owes ≡ [] = here.lfh.paid back in
+      let words : AreAllShown o.limits (length R) m [] ws =
+      subst (λ (w : List ℕ). AreAllShown o.limits (length R) m [] w) f.2 (subst (λ (x : ℕ). AreAllShown o.limits x m [] st.words) counted (subst (λ (w : List Rattle.claim_rule.specs.declared.views.Owed.Owed). AreAllShown o.limits r.lead.counted m w st.words) paid here)) in
       let large : m.state.gate.locks.large ≡ None = none_is m.state.gate.locks.large (free whats.Large) in
       let v = home.vs vs in
       let b = home.back back in

@@ -16,7 +16,7 @@ use Rattle.heap_model.proofs.GateSound.{gate_sound_after, gate_sound_first}
 use Rattle.heap_model.proofs.Others.{agrees_others}
 use Rattle.heap_model.proofs.Stable.{caller_view_same, same_hands}
 use Rattle.claim_rule.specs.declared.views.Assignment.{Assignment}
-use Rattle.claim_rule.specs.declared.views.Opening.{Opening}
+use Rattle.heap_model.specs.declared.Opening.{Opening}
 use Rattle.claim_rule.specs.declared.views.Role.{Role}
 use Rattle.claim_rule.specs.declared.views.Role.TheVariants.{Caller, Root}
 use Rattle.claim_rule.specs.declared.views.Lead.{Lead}

@@ -18,7 +18,7 @@ use Rattle.heap_model.proofs.GateSound.{row_of}
 use Rattle.heap_model.proofs.Own.{act_agrees}
 use Rattle.heap_model.proofs.Revealed.{lock_agrees}
 use Rattle.claim_rule.specs.declared.views.Assignment.{Assignment}
-use Rattle.claim_rule.specs.declared.views.Opening.{Opening}
+use Rattle.heap_model.specs.declared.Opening.{Opening}
 use Rattle.claim_rule.specs.declared.views.View.{View}
 use Rattle.claim_rule.specs.Entries.{IsSettingOf, IsLegalWith, setting_of, slot_at, is_by, entry}
 use Rattle.claim_rule.specs.Rule.{IsReady, ready_after}

@@ -21,7 +21,7 @@ use Rattle.heap_model.specs.Legal.{is_compact}
 use Rattle.heap_model.specs.History.{configuration_after, configuration_of, own}
 use Rattle.heap_model.specs.Agreement.{AgreesFor, revealed}
 use Rattle.claim_rule.specs.declared.views.Assignment.{Assignment}
-use Rattle.claim_rule.specs.declared.views.Opening.{Opening}
+use Rattle.heap_model.specs.declared.Opening.{Opening}
 use Rattle.claim_rule.specs.declared.views.Lead.{Lead}
 use Rattle.claim_rule.specs.declared.views.Role.{Role}
 use Rattle.claim_rule.specs.declared.views.Role.TheVariants.{Root}

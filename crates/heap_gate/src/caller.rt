@@ -11,8 +11,7 @@ ghost use Rattle.heap_gate.specs.Token.{Always, now, Runs, begins, begun_with, w
 
 use crate::heap::Heap;
 use crate::steps::{Place, Prepared, Slip, enter_as, leave_as, look_as};
-use claim_rule::Stands;
-use heap_model::{Act, Busy, Call, Entry, What};
+use heap_model::{Act, Busy, Call, Entry, Stands, What};
 use rand_pcg::Pcg32;
 use random_pick::{Draw, Draws};
 use std::marker::{Brand, Model};

@@ -4,7 +4,7 @@ ghost use lib.ListN.{get_elem?};
 ghost use mathlib.Core.Option.{some};
 
 use crate::root::Root;
-use claim_rule::Stands;
+use heap_model::Stands;
 use std::alloc::Global;
 use std::marker::Model;
 use std::snapshot::Snapshot;

@@ -2,8 +2,8 @@
 ghost use Rattle.std.specs.Prelude.{◌≡◌};
 
 use atomic_table::Table;
-use claim_rule::{HeapRule, Opening, Stands, View};
-use heap_model::Limits;
+use claim_rule::{HeapRule, View};
+use heap_model::{Limits, Opening, Stands};
 use std::alloc::Global;
 use std::marker::Model;
 

@@ -12,8 +12,7 @@ ghost use Rattle.heap_gate.specs.Token.{begins, begins_unlock, begun_unlock, Has
 use crate::caller::{Caller, begin, prepare};
 use crate::heap::Heap;
 use crate::steps::{lock_as, unlock_as};
-use claim_rule::Stands;
-use heap_model::{Act, Busy, Call, LockNo, NotOwner, What};
+use heap_model::{Act, Busy, Call, LockNo, NotOwner, Stands, What};
 use std::marker::Brand;
 
 // The step of taking the heap lock.

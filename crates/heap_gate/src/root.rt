@@ -5,8 +5,8 @@ ghost use Rattle.heap_model.specs.State.{is_among, opening};
 ghost use Rattle.heap_model.specs.History.{configuration_of};
 ghost use Rattle.claim_rule.specs.Entries.{IsLegalWith, setting_of};
 ghost use Rattle.claim_rule.specs.Places.{word_count};
-ghost use Rattle.claim_rule.specs.Home.{StandsForVs, StandsForBack, StandsForLarge};
-ghost use Rattle.claim_rule.specs.Shown.{AreAllShown, lag_of};
+ghost use Rattle.heap_model.specs.Layers.{StandsForVs, StandsForBack, StandsForLarge};
+ghost use Rattle.claim_rule.specs.Shown.{AreAllShown};
 ghost use Rattle.heap_gate.specs.Token.{AreTheirs, HaveMet, HasJoined, IsAtRest, is_of, fresh_caller, fresh_root, opened_with};
 
 use crate::caller::Caller;
@@ -16,8 +16,7 @@ use crate::seats::{agree, count, deal, hear, relayed, take_in, tell};
 use crate::steps::Place;
 use arrayvec::ArrayVec;
 use atomic_table::Table;
-use claim_rule::{Opening, Stands};
-use heap_model::{Limits, OutOfMemory};
+use heap_model::{Limits, Opening, OutOfMemory, Stands};
 use rand_pcg::Pcg32;
 use random_pick::Draws;
 use std::alloc::Global;
@@ -158,7 +157,7 @@ pub fn close_table<T: Stands>(heap: Heap<T>, root: Root<T>) -> Closed<T>
     ensures joined { is_of root.joined root.seen ≡ true }
     ensures theirs { AreTheirs root.joined root.lists root.seen }
     ensures rest { IsAtRest (configuration_of (setting_of root.opening root.roll) root.seen).state }
-    ensures words { AreAllShown root.opening.limits (length root.roll) (configuration_of (setting_of root.opening root.roll) root.seen) (lag_of root.seen) result.words }
+    ensures words { AreAllShown root.opening.limits (length root.roll) (configuration_of (setting_of root.opening root.roll) root.seen) [] result.words }
     ensures vs { StandsForVs root.opening (configuration_of (setting_of root.opening root.roll) root.seen).state (T.stands result.vs) }
     ensures back { StandsForBack root.opening (configuration_of (setting_of root.opening root.roll) root.seen).state (T.stands result.back) }
     ensures large { StandsForLarge root.opening (configuration_of (setting_of root.opening root.roll) root.seen).state (T.stands result.large) }

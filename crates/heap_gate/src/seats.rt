@@ -8,7 +8,8 @@ ghost use Rattle.claim_rule.specs.Rule.{dealing, dealt, relay, told, taken_in};
 ghost use Rattle.claim_rule.specs.Plays.{heard_all, numbered, agreed};
 
 use crate::steps::{Place, Top};
-use claim_rule::{Agrees, Assigned, Deals, Hears, MADE, Numbers, Relays, Stands, TakesIn, Tells};
+use claim_rule::{Agrees, Assigned, Deals, Hears, MADE, Numbers, Relays, TakesIn, Tells};
+use heap_model::Stands;
 
 // Counts one more caller.
 pub(crate) fn count<T: Stands>(top: &Top<T>, place: &mut Place<T>)

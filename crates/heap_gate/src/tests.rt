@@ -4,8 +4,8 @@ ghost use Rattle.heap_gate.specs.Token.{HeapToken, RootToken, Token, count};
 ghost use Rattle.heap_gate.specs.Counts.{AreTwo, IsSettled, GoesOn, counted, enters, locks};
 
 use super::*;
-use claim_rule::{GATE, LOCKS, MADE, Stands};
-use heap_model::{Act, Busy, Call, Limits, LockNo, NotOwner, OutOfMemory, What};
+use claim_rule::{GATE, LOCKS, MADE};
+use heap_model::{Act, Busy, Call, Limits, LockNo, NotOwner, OutOfMemory, Stands, What};
 use std::alloc::Global;
 use std::process::Abort;
 use std::test::*;
@@ -31,7 +31,7 @@ struct Empty {
 impl Stands for Empty {
     ghost use Rattle.std.specs.Prelude.{[]};
     ghost use Rattle.heap_model.specs.State.{opening};
-    ghost use Rattle.claim_rule.specs.Home.{header_key};
+    ghost use Rattle.heap_model.specs.Layers.{header_key};
 
     ghost stands = { λ e. record { lock = e.lock; limits = e.limits; key = header_key e.seed; back = opening.back; vs = opening.vs; vs_spans = []; large = [] } };
 }

@@ -16,3 +16,4 @@ pub mod Alone
 pub mod Shape
 pub mod Serial
 pub mod Layout
+pub mod Layers

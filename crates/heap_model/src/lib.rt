@@ -5,6 +5,10 @@
 ghost use Rattle.std.specs.Prelude.{◌↔◌, IsTrue};
 ghost use Rattle.heap_model.specs.Limits.{AreValid};
 
+mod stands;
+
+pub use stands::Stands;
+
 use std::alloc::AllocError;
 
 /// The layer that keeps a block: the low-fragmentation front end, the variable-size layer, the back end of page spans,
@@ -63,6 +67,13 @@ impl Limits {
             && 1 <= self.callers
             && self.callers <= 64
     }
+}
+
+/// What a heap is opened with: its limits, and the seed of its draws and of the key of its header words.
+#[derive(Clone, Copy, Debug, PartialEq, Eq)]
+pub struct Opening {
+    pub limits: Limits,
+    pub seed: u64,
 }
 
 /// How an allocation or a reallocation is asked for, as by `HEAP_ZERO_MEMORY` and `HEAP_REALLOC_IN_PLACE_ONLY`.

@@ -1,13 +1,13 @@
-use Rattle.std.proofs.Common.{◌≡◌, ℕ, ◌<◌, true, ◌∙◌, ap, sym, subst, List, Option, Some, length}
+use Rattle.std.proofs.Common.{[], ◌≡◌, ℕ, ◌<◌, true, ◌∙◌, ap, sym, subst, List, Option, Some, length}
 use mathlib.Core.Option.{some-injective}
 use lib.ListN.{get_elem?}
 use Rattle.std.specs.Slots.{slots_items}
 use Rattle.heap_model.specs.State.{is_among}
 use Rattle.heap_model.specs.History.{configuration_of}
-use Rattle.claim_rule.specs.declared.views.Opening.{Opening}
+use Rattle.heap_model.specs.declared.Opening.{Opening}
 use Rattle.claim_rule.specs.Entries.{IsLegalWith, setting_of}
-use Rattle.claim_rule.specs.Shown.{AreAllShown, lag_of}
-use Rattle.claim_rule.specs.Home.{StandsForVs, StandsForBack, StandsForLarge}
+use Rattle.claim_rule.specs.Shown.{AreAllShown}
+use Rattle.heap_model.specs.Layers.{StandsForVs, StandsForBack, StandsForLarge}
 use Rattle.heap_gate.specs.Token.{RootToken, HeapToken, AreTheirs, IsAtRest, is_of, joined_of, roll_in}
 use Rattle.heap_gate.proofs.Ending.{ended, of_joined}
 use Rattle.heap_gate.proofs.root.close_table.Goals as goal
@@ -68,9 +68,9 @@ returns-clause-words g c =
     let f = ended g.T.Stands.stands o r.place.id r.made r.place.me (slots_items c.close_with-closed.result.words) (slots_items c.close_with-closed.result.slots) c.root.invariant opened all c.close_with-closed.ensures.values.2 in
     let R = roll_in r.place.me.0.role in let l = r.place.me.0.seen in
     let ws : slots_items c.take-3.new.self.words ≡ slots_items c.close_with-closed.result.words = ap (λ w. slots_items w) (c.take-3.ensures.others.3 ∙ (c.take-2.ensures.others.3 ∙ c.take.ensures.others.3)) in
-    subst (λ (t : RootToken). AreAllShown t.opening.limits (length t.roll) (configuration_of (setting_of t.opening t.roll) t.seen) (lag_of t.seen) (slots_items c.take-3.new.self.words)) c.root.view_is
-    (subst (λ (x : Opening). AreAllShown x.limits (length R) (configuration_of (setting_of x R) l) (lag_of l) (slots_items c.take-3.new.self.words)) (sym opened)
-    (subst (AreAllShown o.limits (length R) (configuration_of (setting_of o R) l) (lag_of l)) (sym ws) f.words))
+    subst (λ (t : RootToken). AreAllShown t.opening.limits (length t.roll) (configuration_of (setting_of t.opening t.roll) t.seen) [] (slots_items c.take-3.new.self.words)) c.root.view_is
+    (subst (λ (x : Opening). AreAllShown x.limits (length R) (configuration_of (setting_of x R) l) [] (slots_items c.take-3.new.self.words)) (sym opened)
+    (subst (AreAllShown o.limits (length R) (configuration_of (setting_of o R) l) []) (sym ws) f.words))
 
 pub returns-clause-vs : goal.returns-clause-vs
 returns-clause-vs g c =

@@ -3,7 +3,7 @@ use Rattle.heap_model.specs.declared.Entry.{Entry}
 use Rattle.claim_rule.specs.Entries.{IsSettingOf}
 use mathlib.Core.Option.{none}
 use Rattle.atomic_table.specs.Table.{Step, step}
-use Rattle.claim_rule.specs.declared.views.Opening.{Opening}
+use Rattle.heap_model.specs.declared.Opening.{Opening}
 use Rattle.heap_model.specs.History.{configuration_after, configuration_of}
 use Rattle.heap_gate.specs.Token.{Token, RootToken, IsRoot, IsAt, HasJoined, root_token}
 use Rattle.heap_gate.proofs.Tokens.{tok}

@@ -5,7 +5,7 @@ use Rattle.std.proofs.Common.{◌<◌, length}
 use mathlib.Core.Option.{none}
 use Rattle.atomic_table.specs.Table.{Step, step}
 use Rattle.claim_rule.specs.declared.views.Assignment.{Assignment}
-use Rattle.claim_rule.specs.declared.views.Opening.{Opening}
+use Rattle.heap_model.specs.declared.Opening.{Opening}
 use Rattle.heap_gate.specs.Token.{HeapToken, RootToken, IsCaller, joined_of, roll_in, lists_of}
 use Rattle.heap_gate.proofs.Tokens.{tok}
 use Rattle.heap_gate.proofs.Meeting.{root_made, counted_role, fresh}

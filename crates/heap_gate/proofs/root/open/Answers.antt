@@ -1,6 +1,6 @@
 use Rattle.std.proofs.Common.{◌≡◌, ℕ, [], ◌∷◌, ◌++◌, ◌∙◌, ap, sym, subst, List, Option, Some}
 use Rattle.atomic_table.specs.Table.{opening}
-use Rattle.claim_rule.specs.declared.views.Opening.{Opening}
+use Rattle.heap_model.specs.declared.Opening.{Opening}
 use Rattle.claim_rule.specs.Places.{word_count}
 use Rattle.claim_rule.specs.Rule.{IsRuled, first_view, zero_words}
 use Rattle.claim_rule.proofs.Seats.{opens}
