@@ -3,7 +3,8 @@ use Rattle.std.proofs.Common.{◌≡◌, ℕ, ◌+◌, ◌-◌, ◌<◌, ◌≤�
 use Rattle.std.specs.List.{AllByRecursion}
 use Rattle.heap_model.specs.declared.Mark.{Mark}
 use Rattle.heap_model.specs.declared.Run as real
-use Rattle.page_ranges.specs.Ranges.{AreRuns, IsRun, IsMarked, free_mark}
+use Rattle.page_ranges.specs.Ranges.{AreRuns, IsRun, IsMarked}
+use Rattle.heap_model.specs.Marks.{free_mark}
 use Rattle.page_ranges.proofs.Runs.{run_kept, and_right_false}
 use Rattle.page_ranges.proofs.Blocks.{taken_append}
 use Rattle.page_ranges.specs.Spans.{is_of_free, taken_runs, is_usable_in, IsUsed, AreApart}

@@ -6,7 +6,8 @@ use Rattle.heap_model.specs.declared.Run as real
 use Rattle.heap_model.specs.State.{Area, Span, remove_found}
 use Rattle.heap_model.specs.Search.{begins_at, span_at}
 use Rattle.page_ranges.specs.Words.{runs_of, run_of_page}
-use Rattle.page_ranges.specs.Ranges.{AreRuns, IsRun, IsMarked, IsInSegment, has_page, free_mark}
+use Rattle.page_ranges.specs.Ranges.{AreRuns, IsRun, IsMarked, IsInSegment, has_page}
+use Rattle.heap_model.specs.Marks.{free_mark}
 use Rattle.page_ranges.proofs.Runs.{runs_le, Parts, parts_of}
 use Rattle.page_ranges.specs.Spans.{is_of_span, taken_runs, span_of, spans_in, is_usable_in, IsUsed, AreApart}
 use Rattle.backend_fit.specs.Kept.{Kept, area_of, taken_in, starts_at, marked_span, without_span}

@@ -7,7 +7,8 @@ use Rattle.heap_model.specs.declared.Kind.TheVariants as kinds
 use Rattle.heap_model.specs.declared.Run as real
 use Rattle.heap_model.specs.State.{is_kind}
 use Rattle.page_ranges.specs.Words.{runs_of, run_of_page}
-use Rattle.page_ranges.specs.Ranges.{AreRuns, IsRun, IsMarked, free_mark}
+use Rattle.page_ranges.specs.Ranges.{AreRuns, IsRun, IsMarked}
+use Rattle.heap_model.specs.Marks.{free_mark}
 use Rattle.page_ranges.proofs.Runs.{runs_le, found, and_right_false}
 use Rattle.page_ranges.proofs.Next.{header_has_one}
 use Rattle.page_ranges.specs.Spans.{is_of_span, is_of_free, taken_runs, is_usable_in, IsUsed, AreApart}

@@ -4,7 +4,8 @@ use Rattle.std.specs.List.{AllByRecursion}
 use Rattle.heap_model.specs.declared.Mark.{Mark}
 use Rattle.heap_model.specs.declared.Run as real
 use Rattle.page_ranges.specs.Words.{runs_of}
-use Rattle.page_ranges.specs.Ranges.{IsRun, IsMarked, free_mark}
+use Rattle.page_ranges.specs.Ranges.{IsRun, IsMarked}
+use Rattle.heap_model.specs.Marks.{free_mark}
 use Rattle.page_ranges.specs.Spans.{is_of_free, taken_runs, is_usable_in, IsUsed, AreApart}
 use Rattle.page_ranges.proofs.Runs.{runs_le, run_kept, Parts, and_right_false}
 use Rattle.backend_fit.specs.Kept.{Kept, marked_run, insert_run}

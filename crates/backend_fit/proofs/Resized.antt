@@ -13,10 +13,12 @@ use Rattle.heap_model.specs.Legal.{commit, with_pages}
 use Rattle.heap_model.specs.Search.{span_at}
 use Rattle.page_region.specs.Held.{Held, IsHeld, committed_of}
 use Rattle.page_ranges.specs.Words.{runs_of, run_of_page}
-use Rattle.page_ranges.specs.Ranges.{AreRuns, IsRun, IsMarked, IsInSegment, has_page, free_mark}
+use Rattle.page_ranges.specs.Ranges.{AreRuns, IsRun, IsMarked, IsInSegment, has_page}
+use Rattle.heap_model.specs.Marks.{free_mark}
 use Rattle.page_ranges.proofs.Runs.{runs_le, Parts}
 use Rattle.page_ranges.specs.Spans.{is_of_span, is_of_free, taken_runs, span_of, frees_in, is_usable_in}
-use Rattle.backend_fit.specs.Kept.{Kept, area_of, taken_in, starts_at, marked_run, marked_span, with_mark, block_mark, with_size, reach_of}
+use Rattle.backend_fit.specs.Kept.{Kept, area_of, taken_in, starts_at, marked_run, marked_span, with_mark, with_size, reach_of}
+use Rattle.heap_model.specs.Marks.{back_mark}
 use Rattle.backend_fit.specs.Sound.{IsSound, IsSpan, IsSpanMark, end_of}
 use Rattle.backend_fit.proofs.Tiled.{Tiled, tells, sound_of, change_front, spans_change}
 use Rattle.backend_fit.proofs.KindLemmas.{span_not_free}
@@ -178,7 +180,7 @@ module _ (k : Kept) (region : Held) (new : List ℕ) (first n : ℕ) (m : Mark) 
 
 -- a mark of kind Back changes the span of a back-end block in its pages alone
 pub same_span : (words : List ℕ) (r : real.Run) (n unused : ℕ) → IsRun words r → r.mark.kind ≡ kinds.Back →
-    marked_span r.first n (block_mark unused) ≡ with_pages n (span_of r)
+    marked_span r.first n (back_mark unused) ≡ with_pages n (span_of r)
 same_span words r n unused i e = elim i.kept [
   | inl h ↦ let f : r.mark.kind ≡ kinds.Header = ap (λ (q : real.Run). q.mark.kind) h.0 in let no : ⊥ = cc in absurd no
   | inr m ↦
@@ -187,7 +189,7 @@ same_span words r n unused i e = elim i.kept [
       rw (e, z.0, z.1) refl
 ]
 
-pub block_mark_is : (unused : ℕ) → IsSpanMark (block_mark unused)
+pub block_mark_is : (unused : ℕ) → IsSpanMark (back_mark unused)
 block_mark_is unused = record { mark = record { used = refl; of_lfh = λ e. (refl, refl); of_back = λ e. let no : ⊥ = cc in absurd no }; kind = refl }
 
 span_is : (k : Kept) (first : ℕ) (r : real.Run) (x : Span) → IsSound k → span_at (area_of k) first ≡ Some x → find (has_page first) (runs_of k.words) ≡ Some r → marked_span r.first r.pages r.mark ≡ x
@@ -223,7 +225,7 @@ shown_kind k v first r e s h j f =
     t
 
 pub shown_same : (k v : Kept) (first n unused : ℕ) (r : real.Run) → k ≡ v → IsSound k → IsSome (span_at (area_of v) first) → IfSome (span_at (area_of v) first) (λ (x : Span). x.kind ≡ kinds.Back) → find (has_page first) (runs_of k.words) ≡ Some r →
-    marked_span r.first n (block_mark unused) ≡ with_pages n (span_of r)
+    marked_span r.first n (back_mark unused) ≡ with_pages n (span_of r)
 shown_same k v first n unused r e s h j f =
     let i = (shown_run k v first r e s h f).0 in
     let p = parts k r s i in

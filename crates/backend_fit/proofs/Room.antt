@@ -9,7 +9,8 @@ use Rattle.heap_model.specs.State.{Area}
 use Rattle.heap_model.specs.Backend.{free_runs, is_better}
 use Rattle.page_region.specs.Held.{Held}
 use Rattle.page_ranges.specs.Words.{runs_of}
-use Rattle.page_ranges.specs.Ranges.{IsMarked, IsInSegment, has_page, free_mark}
+use Rattle.page_ranges.specs.Ranges.{IsMarked, IsInSegment, has_page}
+use Rattle.heap_model.specs.Marks.{free_mark}
 use Rattle.page_ranges.proofs.Runs.{Parts, parts_of, runs_le}
 use Rattle.page_ranges.specs.Spans.{taken_runs, span_of, frees_in, plain, is_usable_in, IsUsed}
 use Rattle.backend_fit.specs.Kept.{Kept, area_of, taken_in, with_segment}

@@ -66,10 +66,6 @@ marked_run first pages m = record { first = first; pages = pages; mark = m }
 abbrev pub marked_span : ℕ → ℕ → Mark → Span
 marked_span first pages m = span_of (marked_run first pages m)
 
--- the mark of a block of the back end
-abbrev pub block_mark : ℕ → Mark
-block_mark unused = record { kind = kinds.Back; bucket = 0; slot = 0; unused = unused }
-
 -- the run with so many pages and another mark
 abbrev pub with_mark : ℕ → Mark → Run → Run
 with_mark pages m r = record { first = r.first; pages = pages; mark = m }

@@ -25,7 +25,8 @@ ghost use Rattle.page_region.specs.Held.{IsHeld};
 ghost use Rattle.page_ranges.specs.Words.{runs_of};
 ghost use Rattle.page_ranges.specs.Ranges.{IsWhole, has_page};
 ghost use Rattle.page_ranges.specs.Spans.{is_of_free, plain, AreSettled};
-ghost use Rattle.backend_fit.specs.Kept.{Kept, area_of, taken_in, with_segment, marked_run, marked_span, insert_run, starts_at, with_mark, block_mark, without_span, with_size, reach_of, is_idle, decommitted};
+ghost use Rattle.backend_fit.specs.Kept.{Kept, area_of, taken_in, with_segment, marked_run, marked_span, insert_run, starts_at, with_mark, without_span, with_size, reach_of, is_idle, decommitted};
+ghost use Rattle.heap_model.specs.Marks.{back_mark};
 ghost use Rattle.backend_fit.specs.Sound.{IsSound, IsFreeRun, IsSpan, IsSpanMark, start_of, end_of};
 ghost use Rattle.backend_fit.specs.Best.{with_run};
 
@@ -156,7 +157,7 @@ impl Back {
         ensures fits { result ≡ nat_le n (reach_of (area_of self.old) (span_at (area_of self.old) first)) }
         ensures stays { OnFalse result (self.new ≡ self.old) }
         ensures area { OnTrue result (area_of self.new ≡ with_size (area_of self.old) first n) }
-        ensures marks { OnTrue result (taken_in self.new.words ≡ change_found (starts_at first) (with_mark n (block_mark unused)) (taken_in self.old.words)) }
+        ensures marks { OnTrue result (taken_in self.new.words ≡ change_found (starts_at first) (with_mark n (back_mark unused)) (taken_in self.old.words)) }
         ensures segments { self.new.region.segments ≡ self.old.region.segments }
     {
         let run = self.descs.run_at(first);
@@ -209,7 +210,7 @@ fn resize_run(region: &mut Region, descs: &mut Descs, run: Run, end: u32, n: u32
     requires some { 0 < n }
     requires within { run.first + n ≤ end }
     ensures area { area_of (record { region = region.new; words = descs.new }) ≡ with_size (area_of (record { region = region.old; words = descs.old })) run.first n }
-    ensures marks { taken_in descs.new ≡ change_found (starts_at run.first) (with_mark n (block_mark unused)) (taken_in descs.old) }
+    ensures marks { taken_in descs.new ≡ change_found (starts_at run.first) (with_mark n (back_mark unused)) (taken_in descs.old) }
     ensures sound { IsSound (record { region = region.new; words = descs.new }) }
     ensures segments { region.new.segments ≡ region.old.segments }
 {

@@ -62,7 +62,7 @@ impl Words {
 /// A vector of `n` values that are equal, with room for these and no more.
 pub fn filled<T: Copy>(alloc: Global, value: T, n: usize) -> Result<Vec<T>, OutOfMemory>
     ensures items { IfOk result (λ v. v.items ≡ replicate n value) }
-    ensures room { IfOk result (λ v. vec_capacity v ≡ n) }
+    ensures full { IfOk result (λ v. vec_capacity v ≡ length v.items) }
 {
     let mut values = Vec::with_capacity(alloc, n)?;
     for _ in 0..n {

@@ -10,7 +10,8 @@ use Rattle.heap_model.specs.State.{is_kind, remove_found}
 use Rattle.heap_model.specs.Backend.{back_place}
 use Rattle.heap_model.specs.Legal.{with_span}
 use Rattle.serial_laws.specs.BackCalls.{block_span}
-use Rattle.backend_fit.specs.Kept.{Kept, area_of, taken_in, with_segment, marked_run, block_mark, insert_run, starts_at, without_span}
+use Rattle.backend_fit.specs.Kept.{Kept, area_of, taken_in, with_segment, marked_run, insert_run, starts_at, without_span}
+use Rattle.heap_model.specs.Marks.{back_mark}
 
 -- a run that is a block of the back end
 abbrev pub is_block_run : Run → Bool
@@ -26,7 +27,7 @@ is_block_at addr r = is_block_run r && 4096 * r.first == addr
 
 -- the run of a block of n bytes at this page
 abbrev pub block_run : ℕ → ℕ → Run
-block_run first n = marked_run first (pages_of n) (block_mark (4096 * pages_of n - n))
+block_run first n = marked_run first (pages_of n) (back_mark (4096 * pages_of n - n))
 
 abbrev pub block_size : Run → ℕ
 block_size r = 4096 * r.pages - r.mark.unused

@@ -7,6 +7,7 @@ use Rattle.heap_model.specs.declared.Reply.{Reply}
 use Rattle.heap_model.specs.declared.Reply.TheVariants as replies
 use Rattle.heap_model.specs.declared.Run.{Run}
 use Rattle.heap_model.specs.Geometry.{span_pages_of}
+use Rattle.heap_model.specs.Marks.{vs_mark}
 use Rattle.heap_model.specs.State.{Place, Live, insert_span, remove_found}
 use Rattle.heap_model.specs.Backend.{back_place}
 use Rattle.heap_model.specs.Ranges.{vs_spans}
@@ -23,9 +24,6 @@ pub record AreOneHeap (kept : Kept) (vs : VsKept) : Type 0 where
   pub spans : vs_spans (area_of kept) ≡ vs.spans
   pub granules : length vs.chunks.heads ≡ 65536 * kept.region.segments
   pub inside : AreAt (IsInVs vs.spans) (places_of vs)
-
-abbrev pub vs_mark : Mark
-vs_mark = record { kind = kinds.Vs; bucket = 0; slot = 0; unused = 0 }
 
 -- the run of a span of so many pages at this page
 abbrev pub vs_run : ℕ → ℕ → Run

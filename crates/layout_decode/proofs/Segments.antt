@@ -3,7 +3,8 @@ use Rattle.std.proofs.Common.{◌≡◌, ℕ, ◌+◌, ◌-◌, ◌<◌, ◌≤�
 use Rattle.heap_model.specs.declared.Mark.{Mark}
 use Rattle.heap_model.specs.declared.Run.{Run}
 use Rattle.page_ranges.specs.Words.{header_run, runs_of}
-use Rattle.page_ranges.specs.Ranges.{AreRuns, IsMarked, IsWhole, opened_runs, free_mark}
+use Rattle.page_ranges.specs.Ranges.{AreRuns, IsMarked, IsWhole, opened_runs}
+use Rattle.heap_model.specs.Marks.{free_mark}
 use Rattle.page_ranges.proofs.Runs.{run_kept, runs_only}
 use Rattle.page_ranges.proofs.Marked.{whole_from}
 

@@ -14,8 +14,7 @@ ghost use Rattle.std.specs.Prelude.{◌≡◌, ℕ, ◌+◌, ◌*◌, ◌<◌, I
 ghost use Rattle.heap_model.specs.Buckets.{bucket_of, block_size, bucket_pages, block_count, valid_bits, block_address};
 ghost use Rattle.lfh_buckets.specs.Blocks.{IsBucket, IsBlockAt};
 
-/// The bytes of a page.
-const PAGE_BYTES: u32 = 4096;
+use heap_model::PAGE_BYTES;
 
 /// The bytes in front of the first block.
 const RESERVED_BYTES: u32 = 64;
@@ -70,7 +69,7 @@ pub fn count(bucket: u8) -> u32
     requires { IsBucket bucket }
     ensures { result ≡ block_count bucket }
 {
-    (PAGE_BYTES * pages(bucket) - RESERVED_BYTES) / block_size(bucket)
+    (PAGE_BYTES as u32 * pages(bucket) - RESERVED_BYTES) / block_size(bucket)
 }
 
 /// The bits of bitmap word `word` of a subsegment that stand for blocks. Block `i` stands in bit `i mod 64` of word
@@ -122,5 +121,5 @@ fn first_block(head: u32) -> u64
     requires { head < 4096 }
     ensures { result ≡ 4096 * head + 64 }
 {
-    u64::from(PAGE_BYTES) * u64::from(head) + u64::from(RESERVED_BYTES)
+    PAGE_BYTES * u64::from(head) + u64::from(RESERVED_BYTES)
 }

@@ -22,7 +22,8 @@ use Rattle.claim_rule.specs.Shown.{lfh_spans}
 use Rattle.search_laws.specs.Calls.{lfh_span}
 use Rattle.search_laws.proofs.Filtered.{filtered_in_order}
 use Rattle.lfh_claims.specs.Kept.{IsSubsegment}
-use Rattle.lfh_claims.specs.Takes.{lfh_mark, lfh_run}
+use Rattle.lfh_claims.specs.Takes.{lfh_run}
+use Rattle.heap_model.specs.Marks.{lfh_mark}
 use Rattle.lfh_claims.proofs.Subsegments.{filter_keeps}
 
 order_of : (low : ℕ) (rs : List Run) → AreRising low rs → AreInOrder low (map span_of rs)

@@ -3,6 +3,7 @@ use Rattle.std.specs.Prelude.{◌≡◌, ℕ, ◌∷◌, List, Option, Some, Non
 use Rattle.heap_model.specs.declared.Kind.TheVariants as kinds
 use Rattle.heap_model.specs.declared.Mark.{Mark}
 use Rattle.heap_model.specs.declared.Run.{Run}
+use Rattle.heap_model.specs.Marks.{lfh_mark}
 use Rattle.heap_model.specs.Buckets.{bucket_pages, block_address}
 use Rattle.heap_model.specs.State.{Area, Span}
 use Rattle.heap_model.specs.Backend.{back_place}
@@ -37,10 +38,6 @@ at_hint t g = pass_found t.places g (hinted_span t g.bucket g.slot)
 
 abbrev pub in_pass : LfhPart → SearchKey → Option Found
 in_pass t g = pass_found t.places g (spans_for t g.bucket g.slot)
-
--- the mark of a subsegment
-abbrev pub lfh_mark : ℕ → ℕ → Mark
-lfh_mark b slot = record { kind = kinds.Lfh; bucket = b; slot = slot; unused = 0 }
 
 -- the run of a subsegment at this page
 abbrev pub lfh_run : ℕ → ℕ → ℕ → Run

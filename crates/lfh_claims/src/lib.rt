@@ -19,7 +19,8 @@ ghost use Rattle.heap_model.specs.Limits.{AreValid};
 ghost use Rattle.heap_model.specs.Buckets.{block_size};
 ghost use Rattle.backend_fit.specs.Kept.{area_of};
 ghost use Rattle.lfh_claims.specs.Scan.{search_key};
-ghost use Rattle.lfh_claims.specs.Takes.{StandsIn, lfh_mark, TakesOrNot};
+ghost use Rattle.lfh_claims.specs.Takes.{StandsIn, TakesOrNot};
+ghost use Rattle.heap_model.specs.Marks.{lfh_mark};
 ghost use Rattle.lfh_buckets.specs.Blocks.{IsBucket};
 ghost use Rattle.lfh_claims.specs.Kept.{LfhPart, StandsFor, no_part, HasBlock, HasRoom, size_at, without_block, with_size, with_active};
 

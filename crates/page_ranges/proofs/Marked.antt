@@ -3,7 +3,8 @@ use Rattle.std.proofs.Common.{◌≡◌, ℕ, zero, suc, ◌+◌, ◌-◌, ◌*�
 use Rattle.std.proofs.lemmas.Bool.{le-leb, cases_lt, cases_eq, and_from}
 use Rattle.heap_model.specs.declared.Run.{Run}
 use Rattle.page_ranges.specs.Words.{header_run, word_in, run_of_page, runs_of}
-use Rattle.page_ranges.specs.Ranges.{is_open, is_behind_header, IsHeadered, IsInSegment, IsRun, AreRuns, IsWhole, IsMarked, free_mark, opened_runs}
+use Rattle.page_ranges.specs.Ranges.{is_open, is_behind_header, IsHeadered, IsInSegment, IsRun, AreRuns, IsWhole, IsMarked, opened_runs}
+use Rattle.heap_model.specs.Marks.{free_mark}
 use Rattle.page_ranges.proofs.Decode.{first_of_zero}
 use Rattle.page_ranges.proofs.Runs.{runs_only, runs_kept, runs_append, found}
 

@@ -4,6 +4,7 @@ use Rattle.heap_model.specs.declared.Kind.TheVariants as kinds
 use Rattle.heap_model.specs.declared.Mark.{Mark}
 use Rattle.heap_model.specs.declared.Run.{Run}
 use Rattle.heap_model.specs.State.{is_kind}
+use Rattle.heap_model.specs.Marks.{free_mark}
 use Rattle.page_ranges.specs.Words.{word_in, runs_of, header_run}
 
 -- A segment is open where its first page behind the header has a word that is not 0.
@@ -75,9 +76,6 @@ pub record IsMarked (old new : List ℕ) (r : Run) : Type 0 where
   pub others : (page : ℕ) → (page < r.first) ⊎ (r.first + r.pages ≤ page) → slice_index new page ≡ slice_index old page
 
 -- the runs of a segment that was just opened: its header pages, and one free run
-abbrev pub free_mark : Mark
-free_mark = record { kind = kinds.Free; bucket = 0; slot = 0; unused = 0 }
-
 abbrev pub opened_runs : ℕ → List Run
 opened_runs segment =
     header_run (256 * segment) ∷ header_run (256 * segment + 1) ∷ record { first = 256 * segment + 2; pages = 254; mark = free_mark } ∷ []

@@ -6,6 +6,7 @@ use Rattle.heap_model.specs.declared.Kind.TheVariants as kinds
 use Rattle.heap_model.specs.declared.Mark.{Mark}
 use Rattle.heap_model.specs.declared.Run.{Run}
 use Rattle.heap_model.specs.State.{kind_number, is_kind}
+use Rattle.heap_model.specs.Marks.{header_mark}
 
 -- the kind that a number stands for
 abbrev pub kind_of : ℕ → Kind
@@ -16,9 +17,6 @@ kind_of n =
     if n == 4 then kinds.Back else kinds.Header
 
 -- a header page, or a page of a segment that is not open
-abbrev pub header_mark : Mark
-header_mark = record { kind = kinds.Header; bucket = 0; slot = 0; unused = 0 }
-
 abbrev pub header_run : ℕ → Run
 header_run page = record { first = page; pages = 1; mark = header_mark }
 

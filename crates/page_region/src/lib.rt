@@ -11,11 +11,9 @@ ghost use Rattle.heap_model.specs.Backend.{numbers};
 ghost use Rattle.heap_model.specs.Legal.{commit};
 ghost use Rattle.page_region.specs.Held.{Held, mark_at, committed_of, decommit, IsHeld};
 
-use heap_model::{Limits, OutOfMemory};
+use heap_model::{Limits, OutOfMemory, SEGMENT_PAGES, filled};
 use std::alloc::Global;
 use std::marker::Model;
-
-const SEGMENT_PAGES: u32 = 256;
 
 /// The reserved segments and the committed pages of a heap.
 ///
@@ -29,13 +27,15 @@ pub struct Region {
 }
 
 impl Model for Region {
+    ghost use Rattle.std.specs.Prelude.{◌≡◌, length};
+    ghost use Rattle.std.specs.Vec.{vec_capacity};
     ghost use Rattle.page_region.specs.Held.{Held, IsHeld};
 
     ghost Value = { Held };
 
     ghost view = { λ r. record { segments = r.segments; reserved = r.reserved; marks = r.marks.items } };
 
-    ghost invariant = { λ r. IsHeld (record { segments = r.segments; reserved = r.reserved; marks = r.marks.items }) };
+    ghost invariant = { λ r. IsHeld (record { segments = r.segments; reserved = r.reserved; marks = r.marks.items }) × (vec_capacity r.marks ≡ length r.marks.items) };
 }
 
 impl Region {
@@ -45,7 +45,7 @@ impl Region {
         ensures { IfOk result (λ r. r ≡ record { segments = limits.now.segments; reserved = 0; marks = replicate (256 * limits.now.segments) false }) }
     {
         let pages = SEGMENT_PAGES * limits.segments;
-        let marks = vec![in alloc; false; pages as usize]?;
+        let marks = filled(alloc, false, pages as usize)?;
         Ok(Region {
             segments: limits.segments,
             reserved: 0,

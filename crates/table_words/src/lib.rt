@@ -12,15 +12,8 @@ ghost use Rattle.heap_model.specs.Limits.{AreValid};
 ghost use Rattle.claim_rule.specs.Places.{active_region, hints_region, tags_region, bitmaps_region, sizes_region, data_region, word_count};
 
 use claim_rule::{ACTIVE, HINTS, TAGS};
-use heap_model::{Limits, OutOfMemory};
+use heap_model::{Limits, OutOfMemory, SEGMENT_GRANULES, SEGMENT_PAGES, Words};
 use std::alloc::Global;
-use std::marker::Model;
-
-/// The pages of a segment.
-const SEGMENT_PAGES: usize = 256;
-
-/// The granules of a segment.
-const SEGMENT_GRANULES: usize = 65536;
 
 /// The data words of a segment.
 const SEGMENT_WORDS: usize = 131_072;
@@ -34,52 +27,12 @@ pub const PAGE_BITMAPS: usize = 4;
 /// The hint words of a bucket, one for each slot.
 pub const BUCKET_HINTS: usize = 16;
 
-/// The words of a table. Contracts see the list of them.
-#[derive(Drop)]
-pub struct Words {
-    words: Vec<u64>,
-}
-
-impl Model for Words {
-    ghost use Rattle.std.specs.Prelude.{ℕ, List};
-
-    ghost Value = { List ℕ };
-
-    ghost view = { λ w. w.words.items };
-}
-
-impl Words {
-    /// All words of the table of a heap with these limits, each 0.
-    pub fn new(alloc: Global, limits: &Limits) -> Result<Words, OutOfMemory>
-        requires { AreValid limits.now }
-        ensures { IfOk result (λ w. w ≡ replicate (word_count limits.now) 0) }
-    {
-        let words = vec![in alloc; 0u64; count(limits)]?;
-        Ok(Words { words })
-    }
-
-    /// The word at a place.
-    pub fn at(&self, i: usize) -> u64
-        requires { i < length self.now }
-        ensures { result ≡ slice_index self.now i }
-    {
-        self.words[i]
-    }
-
-    /// Stores a word.
-    pub fn set(&mut self, i: usize, value: u64)
-        requires { i < length self.old }
-        ensures { self.new ≡ slice_set self.old i value }
-    {
-        self.words[i] = value;
-    }
-
-    /// The words, as a search over many of them reads them.
-    pub fn as_slice(&self) -> &[u64]
-        ensures { result.now ≡ self.now }
-    {
-        self.words.as_slice()
-    }
+/// All words of the table of a heap with these limits, each 0.
+pub fn words_of(alloc: Global, limits: &Limits) -> Result<Words, OutOfMemory>
+    requires { AreValid limits.now }
+    ensures { IfOk result (λ w. w ≡ replicate (word_count limits.now) 0) }
+{
+    Words::new(alloc, count(limits))
 }
 
 /// How many words the table has.
@@ -125,7 +78,7 @@ pub fn bitmap_at(limits: &Limits, page: u32, word: u32) -> usize
     requires word { word < 4 }
     ensures { result ≡ (bitmaps_region limits.now).from + 4 * page + word }
 {
-    TAGS + SEGMENT_PAGES * limits.segments as usize + PAGE_BITMAPS * page as usize + word as usize
+    TAGS + SEGMENT_PAGES as usize * limits.segments as usize + PAGE_BITMAPS * page as usize + word as usize
 }
 
 /// Where the size word of a granule is.
@@ -134,7 +87,7 @@ pub fn size_at(limits: &Limits, granule: u32) -> usize
     requires granule { granule < 65536 * limits.now.segments }
     ensures { result ≡ (sizes_region limits.now).from + granule }
 {
-    TAGS + SEGMENT_PAGES * (1 + PAGE_BITMAPS) * limits.segments as usize + granule as usize
+    TAGS + SEGMENT_PAGES as usize * (1 + PAGE_BITMAPS) * limits.segments as usize + granule as usize
 }
 
 /// Where the data words begin.
@@ -143,5 +96,7 @@ pub fn data_from(limits: &Limits) -> usize
     ensures { result ≡ (data_region limits.now).from }
 {
     let segments = limits.segments as usize;
-    TAGS + SEGMENT_PAGES * (1 + PAGE_BITMAPS) * segments + SEGMENT_GRANULES * segments
+    TAGS
+        + SEGMENT_PAGES as usize * (1 + PAGE_BITMAPS) * segments
+        + SEGMENT_GRANULES as usize * segments
 }

@@ -5,7 +5,7 @@ ghost use Rattle.heap_model.specs.Buckets.{bucket_of};
 ghost use Rattle.vs_layer.specs.Counted.{one_more, one_less, once_more, CanGrow, IsSomeLeft};
 
 use crate::{BUCKETS, DUE_SERVED};
-use heap_model::OutOfMemory;
+use heap_model::{OutOfMemory, filled};
 use lfh_buckets::bucket_of;
 use std::alloc::Global;
 
@@ -22,8 +22,8 @@ impl Counts {
         ensures served { IfOk result (λ c. c.served.items ≡ replicate 129 0) }
     {
         Ok(Counts {
-            live: vec![in alloc; 0u32; BUCKETS]?,
-            served: vec![in alloc; 0u16; BUCKETS]?,
+            live: filled(alloc, 0u32, BUCKETS)?,
+            served: filled(alloc, 0u16, BUCKETS)?,
         })
     }
 

@@ -8,7 +8,8 @@ ghost use Rattle.vs_layer.specs.Kept.{block_at};
 ghost use Rattle.vs_layer.specs.Effects.{TellsLast, HasDropped};
 ghost use Rattle.vs_layer.specs.Steps.{is_free_before, is_free_after, TakesInBehind, IsTakenBefore};
 
-use crate::{GRANULE_BYTES, PAGE_GRANULES, Tiling, Vs};
+use crate::{Tiling, Vs};
+use heap_model::{GRANULE_BYTES, PAGE_GRANULES};
 use vs_headers::Head;
 
 impl Vs {

@@ -26,25 +26,20 @@ ghost use Rattle.vs_layer.specs.Kept.{places_of, active_of, part_of};
 ghost use Rattle.vs_layer.specs.Effects.{nothing_kept, IsOfOneHeap, ShowsChunks};
 
 use counting::Counts;
-use heap_model::{Limits, OutOfMemory};
+use heap_model::{FRONT_GRANULES, GRANULE_BYTES, Limits, OutOfMemory, PAGE_BYTES, SEGMENT_PAGES, filled};
 use std::alloc::Global;
 use std::marker::Model;
 use vs_free_tree::FreeIndex;
 use vs_split::Heads;
 
-/// The bytes of a granule.
-const GRANULE_BYTES: u64 = 16;
-
-/// The granules of a page.
-const PAGE_GRANULES: u32 = 256;
-
 /// The most gaps that a segment can have: between two of them lies a place, and each has 2 granules or more.
 const SEGMENT_GAPS: u32 = 16384;
 
-const SEGMENT_PAGES: u32 = 256;
-
 /// The buckets of the low-fragmentation front end, and bucket 0, which is none.
 const BUCKETS: usize = 129;
+
+/// The fewest pages of a span.
+const LEAST_PAGES: u32 = 16;
 
 /// A bucket is due with so many live blocks here, or after so many placements.
 const DUE_LIVE: u32 = 17;
@@ -92,9 +87,9 @@ impl Vs {
                 heads: Heads::new(alloc, limits, key)?,
                 index: FreeIndex::new(alloc, SEGMENT_GAPS * limits.segments)?,
             },
-            pages: vec![in alloc; 0u8; pages]?,
+            pages: filled(alloc, 0u8, pages)?,
             counts: Counts::new(alloc)?,
-            active: vec![in alloc; false; BUCKETS]?,
+            active: filled(alloc, false, BUCKETS)?,
         })
     }
 
@@ -103,8 +98,8 @@ impl Vs {
         requires { n ≤ 131072 }
         ensures { result ≡ span_pages_of n }
     {
-        let bytes = 48 + GRANULE_BYTES * u64::from(units_for(n));
-        (bytes.div_ceil(4096) as u32).max(16)
+        let units = FRONT_GRANULES + u32::from(units_for(n));
+        ((GRANULE_BYTES * u64::from(units)).div_ceil(PAGE_BYTES) as u32).max(LEAST_PAGES)
     }
 
     /// Whether a bucket is to become active: at least 17 of its blocks live here, or at least 2,040 were placed here.

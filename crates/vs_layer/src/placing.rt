@@ -11,7 +11,8 @@ ghost use Rattle.vs_split.specs.Tiles.{AreSpanPages, IsTiled};
 ghost use Rattle.vs_layer.specs.Kept.{vs_span, places_of, place_for};
 ghost use Rattle.vs_layer.specs.Effects.{IsOfOneHeap, LieApart, HasPlaced};
 
-use crate::{GRANULE_BYTES, PAGE_GRANULES, Tiling, Vs, units_for};
+use crate::{Tiling, Vs, units_for};
+use heap_model::{FRONT_GRANULES, GRANULE_BYTES, PAGE_GRANULES};
 
 impl Vs {
     /// Whether a gap holds a block of `n` bytes.
@@ -34,8 +35,8 @@ impl Vs {
     {
         self.tiling.heads.open_span(first, pages);
         self.tiling.index.add(
-            (PAGE_GRANULES * pages - 3) as u16,
-            PAGE_GRANULES * first + 3,
+            (PAGE_GRANULES * pages - FRONT_GRANULES) as u16,
+            PAGE_GRANULES * first + FRONT_GRANULES,
         );
         self.pages[first as usize] = pages as u8;
     }

@@ -9,11 +9,9 @@ ghost use Rattle.vs_layer.specs.Steps.{gap_behind, units_of_gap};
 
 use crate::dropping::size_in;
 use crate::placing::unused_in;
-use crate::{GRANULE_BYTES, Tiling, Vs, units_for};
+use crate::{Tiling, Vs, units_for};
+use heap_model::{GRANULE_BYTES, MOST_VARIABLE};
 use vs_headers::Head;
-
-/// The most bytes of a block of this layer.
-const MOST_BYTES: u64 = 131_072;
 
 impl Vs {
     /// Whether the block at an address can get `n` bytes where it is: in its place and the gap right behind it.
@@ -23,7 +21,7 @@ impl Vs {
     {
         let start = addr - GRANULE_BYTES;
         let head = self.tiling.heads.chunk_at(start).unwrap();
-        n <= MOST_BYTES && units_for(n) <= self.tiling.reach(start, &head)
+        n <= MOST_VARIABLE && units_for(n) <= self.tiling.reach(start, &head)
     }
 
     /// Gives the block at an address `n` bytes where it is, and answers whether it could. Where at least 2 granules are left,

@@ -17,18 +17,11 @@ ghost use Rattle.vs_headers.specs.declared.Head.{Head};
 ghost use Rattle.vs_split.specs.Chunks.{head_at, chunk_at, word_at, with_head, gap, split_chunk, joined_chunk};
 ghost use Rattle.vs_split.specs.Tiles.{AreSpanPages, front_of, IsClear, IsTiled, IsWhole, CanSplit, HasNext, HasPrev};
 
-use heap_model::{Limits, OutOfMemory};
+use heap_model::{FRONT_GRANULES, Limits, OutOfMemory, PAGE_GRANULES, SEGMENT_GRANULES};
 use std::alloc::Global;
 use std::marker::Model;
 use table::HeadTable;
 use vs_headers::Head;
-
-/// The granules of a segment, of a page, and of the front of a span, which holds no chunk.
-const SEGMENT_GRANULES: u32 = 65536;
-
-const PAGE_GRANULES: u32 = 256;
-
-const FRONT_GRANULES: u32 = 3;
 
 /// The headers of all chunks. A contract sees, for each granule of the segments, the head of the chunk that starts
 /// there, if one does.

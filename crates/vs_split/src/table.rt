@@ -4,13 +4,10 @@ ghost use Rattle.std.specs.Prelude.{replicate};
 ghost use Rattle.vs_headers.specs.declared.Head.{Head};
 ghost use Rattle.vs_split.specs.Chunks.{head_at, chunk_at, word_at, with_head, with_prev};
 
-use heap_model::OutOfMemory;
+use heap_model::{GRANULE_BYTES, OutOfMemory, filled};
 use std::alloc::Global;
 use std::marker::Model;
 use vs_headers::{Head, decode, encode};
-
-/// The bytes of a granule.
-const GRANULE_BYTES: u64 = 16;
 
 /// A contract sees the head that each granule has, if a chunk starts there. An encoded word can be 0, and a word that
 /// was never written could decode, so each chunk has a mark too.
@@ -24,12 +21,14 @@ pub(crate) struct HeadTable {
 impl Model for HeadTable {
     ghost use Rattle.vs_split.specs.Chunks.{Chunks};
     ghost use Rattle.vs_split.specs.Table.{chunks_told, AreKept};
+    ghost use Rattle.std.specs.Prelude.{◌≡◌, length};
+    ghost use Rattle.std.specs.Vec.{vec_capacity};
 
     ghost Value = { Chunks };
 
     ghost view = { λ table. chunks_told table.key table.words.items table.starts.items };
 
-    ghost invariant = { λ table. AreKept table.key table.words.items table.starts.items };
+    ghost invariant = { λ table. AreKept table.key table.words.items table.starts.items × (vec_capacity table.words ≡ length table.words.items) × (vec_capacity table.starts ≡ length table.starts.items) };
 }
 
 impl HeadTable {
@@ -37,8 +36,8 @@ impl HeadTable {
     pub(crate) fn new(alloc: Global, granules: u32, key: u64) -> Result<HeadTable, OutOfMemory>
         ensures { IfOk result (λ table. table ≡ record { key = key; heads = replicate granules None }) }
     {
-        let words = vec![in alloc; 0u64; granules as usize]?;
-        let starts = vec![in alloc; false; granules as usize]?;
+        let words = filled(alloc, 0u64, granules as usize)?;
+        let starts = filled(alloc, false, granules as usize)?;
         Ok(HeadTable { words, starts, key })
     }
 

@@ -1,5 +1,6 @@
 use Rattle.std.proofs.Common.{◌≡◌, ◌+◌, ◌-◌, inl, inr, arith, refl, subst}
-use Rattle.backend_fit.specs.Kept.{Kept, block_mark}
+use Rattle.backend_fit.specs.Kept.{Kept}
+use Rattle.heap_model.specs.Marks.{back_mark}
 use Rattle.backend_fit.proofs.Resized.{end_reserved, IsResized, resized, resized_sound, resized_area, resized_taken, span_in, found_run, same_span, block_mark_is}
 use Rattle.backend_fit.proofs.Freed.{parts}
 use Rattle.backend_fit.proofs.Segment.{rest_in}
@@ -26,10 +27,10 @@ commit-requires c =
     let k : Kept = record { region = c.args.region.now; words = c.args.descs.now } in
     omega (arith, end_reserved k c.args.run c.requires.sound c.requires.span)
 
-is_resized : (c : After-commit) → IsResized c.args.descs.now c.if-rest-end.descs c.args.region.now.reserved c.args.run.first c.args.n (block_mark c.args.unused)
+is_resized : (c : After-commit) → IsResized c.args.descs.now c.if-rest-end.descs c.args.region.now.reserved c.args.run.first c.args.n (back_mark c.args.unused)
 is_resized c =
     let k : Kept = record { region = c.args.region.now; words = c.args.descs.now } in
-    resized k c.args.run c.requires.sound c.requires.span c.mark.new.self c.if-rest-end.descs c.args.end c.args.n (block_mark c.args.unused) c.requires.end c.requires.some c.requires.within (block_mark_is c.args.unused) c.mark.ensures.marked
+    resized k c.args.run c.requires.sound c.requires.span c.mark.new.self c.if-rest-end.descs c.args.end c.args.n (back_mark c.args.unused) c.requires.end c.requires.some c.requires.within (block_mark_is c.args.unused) c.mark.ensures.marked
     (elim c.if-rest-end.branch [
       | then-rest-end w ↦ inr (w.if-rest-end.true, rw w.descs-is w.mark-then-rest-end.ensures.marked)
       | else-rest-end w ↦ inl (w.if-rest-end.false, w.descs-is)
@@ -40,15 +41,15 @@ returns-clause-area c =
     let k : Kept = record { region = c.args.region.now; words = c.args.descs.now } in
     let i = c.requires.span in
     let p = parts k c.args.run c.requires.sound i in
-    resized_area k c.commit.new.self c.if-rest-end.descs c.args.run.first c.args.n (block_mark c.args.unused) c.requires.sound (is_resized (goal.at.returns-clause-area c).After-commit) c.commit.ensures.held c.commit.ensures.reserved c.commit.ensures.segments
+    resized_area k c.commit.new.self c.if-rest-end.descs c.args.run.first c.args.n (back_mark c.args.unused) c.requires.sound (is_resized (goal.at.returns-clause-area c).After-commit) c.commit.ensures.held c.commit.ensures.reserved c.commit.ensures.segments
     c.args.run (found_run k c.args.run c.requires.sound i) (rw c.requires.kind refl) (same_span k.words c.args.run c.args.n c.args.unused p.is_run c.requires.kind) c.commit.ensures.marks
 
 pub returns-clause-marks : goal.returns-clause-marks
 returns-clause-marks c =
     let k : Kept = record { region = c.args.region.now; words = c.args.descs.now } in
-    resized_taken k c.commit.new.self c.if-rest-end.descs c.args.run.first c.args.n (block_mark c.args.unused) c.requires.sound (is_resized (goal.at.returns-clause-marks c).After-commit) c.commit.ensures.held c.commit.ensures.reserved c.commit.ensures.segments
+    resized_taken k c.commit.new.self c.if-rest-end.descs c.args.run.first c.args.n (back_mark c.args.unused) c.requires.sound (is_resized (goal.at.returns-clause-marks c).After-commit) c.commit.ensures.held c.commit.ensures.reserved c.commit.ensures.segments
 
 pub returns-clause-sound : goal.returns-clause-sound
 returns-clause-sound c =
     let k : Kept = record { region = c.args.region.now; words = c.args.descs.now } in
-    resized_sound k c.commit.new.self c.if-rest-end.descs c.args.run.first c.args.n (block_mark c.args.unused) c.requires.sound (is_resized (goal.at.returns-clause-sound c).After-commit) c.commit.ensures.held c.commit.ensures.reserved c.commit.ensures.segments
+    resized_sound k c.commit.new.self c.if-rest-end.descs c.args.run.first c.args.n (back_mark c.args.unused) c.requires.sound (is_resized (goal.at.returns-clause-sound c).After-commit) c.commit.ensures.held c.commit.ensures.reserved c.commit.ensures.segments

@@ -1,6 +1,7 @@
 use Rattle.std.proofs.Common.{◌-◌, arith, sym}
 use Rattle.std.proofs.lemmas.Bool.{lt-leb, le-leb}
-use Rattle.backend_fit.specs.Kept.{Kept, area_of, block_mark}
+use Rattle.backend_fit.specs.Kept.{Kept, area_of}
+use Rattle.heap_model.specs.Marks.{back_mark}
 use Rattle.backend_fit.specs.Sound.{IsSpan}
 use Rattle.backend_fit.proofs.Freed.{shown_inside, shown_run, span_inside}
 use Rattle.backend_fit.proofs.Resized.{shown_reach, shown_kind, shown_size, shown_change}
@@ -58,4 +59,4 @@ pub returns-clause-marks : goal.returns-clause-marks
 returns-clause-marks c =
     let k : Kept = record { region = c.self.inside.region; words = c.self.inside.descs } in
     let r = shown_run k c.args.self.now c.args.first c.run_at-run.result c.self.view_is c.self.invariant c.requires.span c.run_at-run.ensures in
-    shown_change k c.args.self.now c.resize_run.new.descs c.run_at-run.result.first c.args.first c.args.n (block_mark c.args.unused) c.self.view_is r.1 c.resize_run.ensures.marks
+    shown_change k c.args.self.now c.resize_run.new.descs c.run_at-run.result.first c.args.first c.args.n (back_mark c.args.unused) c.self.view_is r.1 c.resize_run.ensures.marks

@@ -7,4 +7,4 @@ use Rattle.vs_split.proofs.table.HeadTable.chunk.Goals as goal
 pub overflow_cast-granule : goal.overflow_cast-granule
 overflow_cast-granule c =
     let at = chunk_of c.args.self.now c.args.addr c.requires.0 c.requires.1 in
-    omega (arith, granule_within c.args.self.now _ _ at.head, ap (λ (v : Chunks). length v.heads) c.self.view_is, granules c.self.inside.key c.self.inside.words.items c.self.inside.starts.items c.self.invariant, c.self.invariant.few)
+    omega (arith, granule_within c.args.self.now _ _ at.head, ap (λ (v : Chunks). length v.heads) c.self.view_is, granules c.self.inside.key c.self.inside.words.items c.self.inside.starts.items c.self.invariant.0, c.self.invariant.0.few)

@@ -6,7 +6,7 @@ pub invariant_of-result : goal.invariant_of-result
 invariant_of-result c =
     let words : c.in_ok-words.words.items ≡ replicate c.args.granules 0 = search rules in
     let starts : c.in_ok-starts.starts.items ≡ replicate c.args.granules false = search rules in
-    kept_empty c.args.key c.args.granules _ _ (omega arith) words starts
+    (kept_empty c.args.key c.args.granules _ _ (omega arith) words starts, search rules, search rules)
 
 pub returns : goal.returns
 returns c =

@@ -13,5 +13,5 @@ returns c =
     ∙ ap (λ o. unwrap_or o 0) c.copied.ensures
     ∙ read 0
     ∙ ap (λ l. get_or l c.args.granule 0) c.deref.ensures.value
-    ∙ sym (word_is c.self.inside.key c.self.inside.words.items c.self.inside.starts.items c.self.invariant c.args.granule)
+    ∙ sym (word_is c.self.inside.key c.self.inside.words.items c.self.inside.starts.items c.self.invariant.0 c.args.granule)
     ∙ ap (λ (v : Chunks). word_at v c.args.granule) c.self.view_is
