@@ -8,7 +8,7 @@ use Rattle.heap_model.specs.Marks.{free_mark}
 use Rattle.page_ranges.proofs.Runs.{run_kept, and_right_false}
 use Rattle.page_ranges.proofs.Blocks.{taken_append}
 use Rattle.page_ranges.specs.Spans.{is_of_free, taken_runs, is_usable_in, IsUsed, AreApart}
-use Rattle.backend_fit.specs.Kept.{marked_run}
+use Rattle.backend_fit.specs.Effects.{marked_run}
 use Rattle.backend_fit.specs.Sound.{IsSpanMark}
 use Rattle.backend_fit.proofs.Tiled.{last_free, apart_append, apart_weaker, Tiled, changed}
 use Rattle.backend_fit.proofs.KindLemmas.{span_not_header, span_not_free}

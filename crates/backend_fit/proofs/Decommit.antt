@@ -12,8 +12,9 @@ use Rattle.page_ranges.specs.Words.{runs_of, runs_from}
 use Rattle.page_ranges.specs.Ranges.{AreRuns}
 use Rattle.page_ranges.proofs.Runs.{Step, and_right_false}
 use Rattle.page_ranges.specs.Spans.{is_of_free}
-use Rattle.backend_fit.specs.Kept.{Kept, area_of, is_idle}
-use Rattle.backend_fit.specs.Sound.{IsSound}
+use Rattle.backend_fit.specs.Pages.{Pages, pages_area}
+use Rattle.backend_fit.specs.Effects.{is_idle}
+use Rattle.backend_fit.specs.Sound.{AreSound}
 use Rattle.page_ranges.proofs.FreeRuns.{IsTested, free_tested}
 
 -- counts of the same numbers, and of none
@@ -52,11 +53,11 @@ pub record IsSweep (words : List ℕ) (a : Area) (page : ℕ) (committed : ℕ �
   pub marks : (u : ℕ) → committed u ≡ cleared_below a page u
   pub count : cleared ≡ count_by (is_idle a) (numbers 0 page)
 
-pub sweep_begins : (k : Kept) → IsSound k → IsSweep k.words (area_of k) 0 (committed_of k.region) 0
+pub sweep_begins : (k : Pages) → AreSound k → IsSweep k.words (pages_area k) 0 (committed_of k.region) 0
 sweep_begins k s = record {
   runs = s.whole;
-  tested = free_tested (area_of k) k.words 0 (length k.words) (runs_of k.words) (λ page l. refl) s.whole s.used;
-  marks = λ u. sym (rw (le-ltb u 0 (omega arith), and_right_false (is_free (area_of k) u)) (and_right_true (committed_of k.region u)));
+  tested = free_tested (pages_area k) k.words 0 (length k.words) (runs_of k.words) (λ page l. refl) s.whole s.used;
+  marks = λ u. sym (rw (le-ltb u 0 (omega arith), and_right_false (is_free (pages_area k) u)) (and_right_true (committed_of k.region u)));
   count = refl;
 }
   where
@@ -146,28 +147,28 @@ count_small f at (suc n) =
     small false = omega arith
 
 -- the sweep is over where the reserved segments end
-pub swept_marks : (k : Kept) (page cleared : ℕ) (committed : ℕ → Bool) → IsSweep k.words (area_of k) page committed cleared → 256 * k.region.reserved ≤ page → committed ≡ (λ u. committed_of k.region u && not (is_free (area_of k) u))
+pub swept_marks : (k : Pages) (page cleared : ℕ) (committed : ℕ → Bool) → IsSweep k.words (pages_area k) page committed cleared → 256 * k.region.reserved ≤ page → committed ≡ (λ u. committed_of k.region u && not (is_free (pages_area k) u))
 swept_marks k page cleared committed w l = fun_ext each
   where
     and_right_true : (b : Bool) → (b && true) ≡ b
     and_right_true true = refl
     and_right_true false = refl
 
-    each : (u : ℕ) → committed u ≡ (committed_of k.region u && not (is_free (area_of k) u))
+    each : (u : ℕ) → committed u ≡ (committed_of k.region u && not (is_free (pages_area k) u))
     each u = elim (cases_lt u page) [
-      | inl m ↦ w.marks u ∙ rw (lt-ltb u page m) (ap (λ b. committed_of k.region u && not b) (and_right_true (is_free (area_of k) u)))
+      | inl m ↦ w.marks u ∙ rw (lt-ltb u page m) (ap (λ b. committed_of k.region u && not b) (and_right_true (is_free (pages_area k) u)))
       | inr m ↦
           let out : ltb (u / 256) k.region.reserved ≡ false = le-ltb (u / 256) k.region.reserved (omega arith) in
           w.marks u ∙ rw (le-ltb u page m, out) refl
     ]
 
-pub swept_count : (k : Kept) (page cleared : ℕ) (committed : ℕ → Bool) → IsSweep k.words (area_of k) page committed cleared → 256 * k.region.reserved ≤ page → cleared ≡ count_by (is_idle (area_of k)) (numbers 0 (256 * k.region.reserved))
+pub swept_count : (k : Pages) (page cleared : ℕ) (committed : ℕ → Bool) → IsSweep k.words (pages_area k) page committed cleared → 256 * k.region.reserved ≤ page → cleared ≡ count_by (is_idle (pages_area k)) (numbers 0 (256 * k.region.reserved))
 swept_count k page cleared committed w l =
     let n = 256 * k.region.reserved in
     let e : page ≡ n + (page - n) = omega arith in
-    let a = area_of k in
+    let a = pages_area k in
     let none : count_by (is_idle a) (numbers (0 + n) (page - n)) ≡ 0 = count_same (is_idle a) (λ x. false) (0 + n) (page - n) (λ j m. outside (0 + n + j) (omega arith)) ∙ count_none (0 + n) (page - n) in
     w.count ∙ ap (λ x. count_by (is_idle a) (numbers 0 x)) e ∙ count_append (is_idle a) 0 n (page - n) ∙ rw none (omega arith)
   where
-    outside : (u : ℕ) → 256 * k.region.reserved ≤ u → is_idle (area_of k) u ≡ false
+    outside : (u : ℕ) → 256 * k.region.reserved ≤ u → is_idle (pages_area k) u ≡ false
     outside u m = let out : ltb (u / 256) k.region.reserved ≡ false = le-ltb (u / 256) k.region.reserved (omega arith) in rw out (and_right_false (committed_of k.region u))

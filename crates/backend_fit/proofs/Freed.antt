@@ -10,8 +10,9 @@ use Rattle.page_ranges.specs.Ranges.{AreRuns, IsRun, IsMarked, IsInSegment, has_
 use Rattle.heap_model.specs.Marks.{free_mark}
 use Rattle.page_ranges.proofs.Runs.{runs_le, Parts, parts_of}
 use Rattle.page_ranges.specs.Spans.{is_of_span, taken_runs, span_of, spans_in, is_usable_in, IsUsed, AreApart}
-use Rattle.backend_fit.specs.Kept.{Kept, area_of, taken_in, starts_at, marked_span, without_span}
-use Rattle.backend_fit.specs.Sound.{IsSound, IsSpan, start_of, end_of}
+use Rattle.backend_fit.specs.Pages.{Pages, pages_area, taken_in}
+use Rattle.backend_fit.specs.Effects.{starts_at, marked_span, without_span}
+use Rattle.backend_fit.specs.Sound.{AreSound, IsSpan, start_of, end_of}
 use Rattle.backend_fit.proofs.Tiled.{all_parts, last_free, apart_append, apart_parts, Tiled, tells, changed, sound_of, remove_front, spans_remove}
 use Rattle.page_ranges.proofs.Blocks.{taken_append}
 use Rattle.backend_fit.proofs.KindLemmas.{span_not_free, span_not_header}
@@ -25,7 +26,7 @@ pub record IsFreed (old new : List ℕ) (reserved first : ℕ) : Type 0 where
   pub tiled : Tiled new reserved runs
   pub taken : taken_runs runs ≡ remove_found (starts_at first) (taken_runs (runs_of old))
 
-module _ (k : Kept) (r : real.Run) (s : IsSound k) (i : IsSpan k.words r) where
+module _ (k : Pages) (r : real.Run) (s : AreSound k) (i : IsSpan k.words r) where
   pub parts : Parts k.words 0 (length k.words) (runs_of k.words) r
   parts = parts_of k.words 0 (length k.words) (runs_of k.words) (has_page r.first) r s.whole i.finds
 
@@ -133,15 +134,15 @@ module _ (k : Kept) (r : real.Run) (s : IsSound k) (i : IsSpan k.words r) where
           ap (λ (rs : List real.Run). remove_found (starts_at r.first) (taken_runs rs)) p.parts ∙ remove_front k.words 0 r.first p.before (r ∷ p.after) p.front ∙ ap (λ (xs : List real.Run). taken_runs p.before ++ xs) gone in
           new ∙ sym old
 
-module _ (k : Kept) (new : List ℕ) (first : ℕ) (s : IsSound k) (f : IsFreed k.words new k.region.reserved first) where
-  pub freed_sound : IsSound (record { region = k.region; words = new })
+module _ (k : Pages) (new : List ℕ) (first : ℕ) (s : AreSound k) (f : IsFreed k.words new k.region.reserved first) where
+  pub freed_sound : AreSound (record { region = k.region; words = new })
   freed_sound = sound_of (record { region = k.region; words = new }) f.runs s.held (f.same_length ∙ s.pages) f.tiled
 
   pub freed_taken : taken_in new ≡ remove_found (starts_at first) (taken_in k.words)
   freed_taken = ap taken_runs (tells new k.region.reserved f.runs f.tiled) ∙ f.taken
 
-  pub freed_area : area_of (record { region = k.region; words = new }) ≡ without_span (area_of k) first
-  freed_area = area_is (area_of (record { region = k.region; words = new })) (without_span (area_of k) first) refl refl (ap (map span_of) freed_taken ∙ spans_remove first (taken_in k.words))
+  pub freed_area : pages_area (record { region = k.region; words = new }) ≡ without_span (pages_area k) first
+  freed_area = area_is (pages_area (record { region = k.region; words = new })) (without_span (pages_area k) first) refl refl (ap (map span_of) freed_taken ∙ spans_remove first (taken_in k.words))
 
 -- the run of words at which a span starts
 pub record SpanHere (words : List ℕ) (first : ℕ) (x : Span) : Type 0 where
@@ -180,7 +181,7 @@ some_of (Some x) h = (x, refl)
 some_of None h = let no : ⊥ = cc in absurd no
 
 -- the run that is read where a span starts
-pub span_run : (k : Kept) (first : ℕ) (r : real.Run) (x : Span) → IsSound k → span_at (area_of k) first ≡ Some x → find (has_page first) (runs_of k.words) ≡ Some r → IsSpan k.words r × (r.first ≡ first) × (r.pages ≡ x.pages)
+pub span_run : (k : Pages) (first : ℕ) (r : real.Run) (x : Span) → AreSound k → span_at (pages_area k) first ≡ Some x → find (has_page first) (runs_of k.words) ≡ Some r → IsSpan k.words r × (r.first ≡ first) × (r.pages ≡ x.pages)
 span_run k first r x s e f =
     let h = span_here k.words 0 (runs_of k.words) first x s.whole e in
     let is = run_is k.words first r s.whole h.inside f in
@@ -189,27 +190,27 @@ span_run k first r x s e f =
     let pages : r.pages ≡ x.pages = rw is (ap (λ (y : Span). y.pages) h.same) in
     (record { finds = subst (λ n. find (has_page n) (runs_of k.words) ≡ Some r) (sym begins) f; span = span }, begins, pages)
 
-pub span_in_pages : (k : Kept) (first : ℕ) (x : Span) → IsSound k → span_at (area_of k) first ≡ Some x → first < length k.words
+pub span_in_pages : (k : Pages) (first : ℕ) (x : Span) → AreSound k → span_at (pages_area k) first ≡ Some x → first < length k.words
 span_in_pages k first x s e = let h = span_here k.words 0 (runs_of k.words) first x s.whole e in h.inside
 
 ---- The same, from what a back end shows
 
-pub shown_inside : (k v : Kept) (first : ℕ) → k ≡ v → IsSound k → IsSome (span_at (area_of v) first) → first < length k.words
+pub shown_inside : (k v : Pages) (first : ℕ) → k ≡ v → AreSound k → IsSome (span_at (pages_area v) first) → first < length k.words
 shown_inside k v first e s h =
-    let o = some_of (span_at (area_of k) first) (subst (λ (w : Kept). IsSome (span_at (area_of w) first)) (sym e) h) in
+    let o = some_of (span_at (pages_area k) first) (subst (λ (w : Pages). IsSome (span_at (pages_area w) first)) (sym e) h) in
     span_in_pages k first o.0 s o.1
 
-pub shown_run : (k v : Kept) (first : ℕ) (r : real.Run) → k ≡ v → IsSound k → IsSome (span_at (area_of v) first) → find (has_page first) (runs_of k.words) ≡ Some r →
-    IsSpan k.words r × (r.first ≡ first) × IfSome (span_at (area_of v) first) (λ (x : Span). r.pages ≡ x.pages)
+pub shown_run : (k v : Pages) (first : ℕ) (r : real.Run) → k ≡ v → AreSound k → IsSome (span_at (pages_area v) first) → find (has_page first) (runs_of k.words) ≡ Some r →
+    IsSpan k.words r × (r.first ≡ first) × IfSome (span_at (pages_area v) first) (λ (x : Span). r.pages ≡ x.pages)
 shown_run k v first r e s h f =
-    let o = some_of (span_at (area_of k) first) (subst (λ (w : Kept). IsSome (span_at (area_of w) first)) (sym e) h) in
+    let o = some_of (span_at (pages_area k) first) (subst (λ (w : Pages). IsSome (span_at (pages_area w) first)) (sym e) h) in
     let p = span_run k first r o.0 s o.1 f in
     let g : IfSome (Some o.0) (λ (x : Span). r.pages ≡ x.pages) = p.2 in
-    let pages : IfSome (span_at (area_of k) first) (λ (x : Span). r.pages ≡ x.pages) = subst (λ (q : Option Span). IfSome q (λ (x : Span). r.pages ≡ x.pages)) (sym o.1) g in
-    (p.0, p.1, subst (λ (w : Kept). IfSome (span_at (area_of w) first) (λ (x : Span). r.pages ≡ x.pages)) e pages)
+    let pages : IfSome (span_at (pages_area k) first) (λ (x : Span). r.pages ≡ x.pages) = subst (λ (q : Option Span). IfSome q (λ (x : Span). r.pages ≡ x.pages)) (sym o.1) g in
+    (p.0, p.1, subst (λ (w : Pages). IfSome (span_at (pages_area w) first) (λ (x : Span). r.pages ≡ x.pages)) e pages)
 
-pub shown_area : (k v : Kept) (a : Area) (first first' : ℕ) → k ≡ v → first ≡ first' → a ≡ without_span (area_of k) first → a ≡ without_span (area_of v) first'
-shown_area k v a first first' e f g = g ∙ ap (λ n. without_span (area_of k) n) f ∙ ap (λ (w : Kept). without_span (area_of w) first') e
+pub shown_area : (k v : Pages) (a : Area) (first first' : ℕ) → k ≡ v → first ≡ first' → a ≡ without_span (pages_area k) first → a ≡ without_span (pages_area v) first'
+shown_area k v a first first' e f g = g ∙ ap (λ n. without_span (pages_area k) n) f ∙ ap (λ (w : Pages). without_span (pages_area w) first') e
 
-pub shown_taken : (k v : Kept) (new : List ℕ) (first first' : ℕ) → k ≡ v → first ≡ first' → taken_in new ≡ remove_found (starts_at first) (taken_in k.words) → taken_in new ≡ remove_found (starts_at first') (taken_in v.words)
-shown_taken k v new first first' e f g = g ∙ ap (λ n. remove_found (starts_at n) (taken_in k.words)) f ∙ ap (λ (w : Kept). remove_found (starts_at first') (taken_in w.words)) e
+pub shown_taken : (k v : Pages) (new : List ℕ) (first first' : ℕ) → k ≡ v → first ≡ first' → taken_in new ≡ remove_found (starts_at first) (taken_in k.words) → taken_in new ≡ remove_found (starts_at first') (taken_in v.words)
+shown_taken k v new first first' e f g = g ∙ ap (λ n. remove_found (starts_at n) (taken_in k.words)) f ∙ ap (λ (w : Pages). remove_found (starts_at first') (taken_in w.words)) e

@@ -8,8 +8,8 @@ use Rattle.page_region.specs.Held.{mark_at}
 use Rattle.page_ranges.specs.Spans.{taken_runs, span_of, IsUsed, AreApart}
 use Rattle.page_ranges.proofs.Runs.{and_right_false}
 use Rattle.page_ranges.proofs.Fresh.{headers, fresh_tile}
-use Rattle.backend_fit.specs.Kept.{Kept, area_of, taken_in}
-use Rattle.backend_fit.specs.Sound.{IsSound}
+use Rattle.backend_fit.specs.Pages.{Pages, pages_area, taken_in}
+use Rattle.backend_fit.specs.Sound.{AreSound}
 use Rattle.backend_fit.proofs.Tiled.{Tiled, tells, sound_of}
 use Rattle.backend_fit.proofs.Area.{area_is}
 use Rattle.backend_fit.proofs.Open.{beyond}
@@ -30,20 +30,20 @@ headers_no_spans at zero = refl
 headers_no_spans at (suc n) = headers_no_spans (suc at) n
 
 module _ (segments : ℕ) (few : segments ≤ 16) where
-  abbrev fresh : Kept
+  abbrev fresh : Pages
   fresh = record { region = record { segments = segments; reserved = 0; marks = replicate (256 * segments) false }; words = replicate (256 * segments) 0 }
 
   fresh_tiled : Tiled (replicate (256 * segments) 0) 0 (headers 0 (256 * segments))
   fresh_tiled = record { runs = fresh_tile (256 * segments); used = headers_used 0 (256 * segments); apart = headers_apart false 0 (256 * segments) }
 
-  pub fresh_sound : IsSound fresh
+  pub fresh_sound : AreSound fresh
   fresh_sound = sound_of fresh (headers 0 (256 * segments)) (record { few = few; reserved = omega arith; marks = length-replicate (256 * segments) false }) (length-replicate {A = ℕ} (256 * segments) 0) fresh_tiled
 
   pub fresh_taken : taken_in (replicate (256 * segments) 0) ≡ []
   fresh_taken = ap taken_runs (tells (replicate (256 * segments) 0) 0 (headers 0 (256 * segments)) fresh_tiled) ∙ headers_no_spans 0 (256 * segments)
 
-  pub fresh_area : area_of fresh ≡ record { reserved = 0; committed = λ _. false; spans = [] }
-  fresh_area = area_is (area_of fresh) (record { reserved = 0; committed = λ _. false; spans = [] }) refl (fun_ext none) (ap (map span_of) fresh_taken)
+  pub fresh_area : pages_area fresh ≡ record { reserved = 0; committed = λ _. false; spans = [] }
+  fresh_area = area_is (pages_area fresh) (record { reserved = 0; committed = λ _. false; spans = [] }) refl (fun_ext none) (ap (map span_of) fresh_taken)
     where
       none : (page : ℕ) → mark_at (replicate (256 * segments) false) page ≡ false
       none page = elim (cases_lt page (256 * segments)) [

@@ -14,3 +14,11 @@ pub mod Carved
 pub mod Resized
 pub mod Decommit
 pub mod Shown
+pub mod OfKind
+pub mod Rising
+pub mod NextSegment
+pub mod Goes
+pub mod Changed
+pub mod Standing
+pub mod Sounds
+pub mod Tail

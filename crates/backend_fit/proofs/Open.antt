@@ -12,8 +12,8 @@ use Rattle.heap_model.specs.Marks.{free_mark}
 use Rattle.page_ranges.proofs.Runs.{runs_le, found, and_right_false}
 use Rattle.page_ranges.proofs.Next.{header_has_one}
 use Rattle.page_ranges.specs.Spans.{is_of_span, is_of_free, taken_runs, is_usable_in, IsUsed, AreApart}
-use Rattle.backend_fit.specs.Kept.{Kept}
-use Rattle.backend_fit.specs.Sound.{IsSound}
+use Rattle.backend_fit.specs.Pages.{Pages}
+use Rattle.backend_fit.specs.Sound.{AreSound}
 use Rattle.backend_fit.proofs.Tiled.{all_parts, last_free, apart_append, apart_parts, Tiled, changed}
 use Rattle.page_ranges.proofs.Blocks.{taken_append}
 use Rattle.backend_fit.proofs.BestFit.{header_only}
@@ -88,7 +88,7 @@ record Cut (words : List ℕ) (reserved page : ℕ) (rs : List real.Run) : Type 
   used_before : AllByRecursion (IsUsed reserved) before
   used_here : AllByRecursion (IsUsed reserved) (run ∷ after)
 
-cut : (k : Kept) (page : ℕ) → IsSound k → 256 * k.region.reserved ≤ page → page < length k.words → Cut k.words k.region.reserved page (runs_of k.words)
+cut : (k : Pages) (page : ℕ) → AreSound k → 256 * k.region.reserved ≤ page → page < length k.words → Cut k.words k.region.reserved page (runs_of k.words)
 cut k page s low l =
     let f = found k.words 0 (length k.words) (runs_of k.words) page s.whole (omega arith) l in
     let r = run_of_page k.words page in
@@ -142,7 +142,7 @@ pub record IsOpened (old new : List ℕ) (reserved : ℕ) : Type 0 where
   pub taken : taken_runs runs ≡ taken_runs (runs_of old)
   pub is_run : IsRun new (record { first = 256 * reserved + 2; pages = 254; mark = free_mark })
 
-pub opened : (k : Kept) (new : List ℕ) → IsSound k → k.region.reserved < k.region.segments → IsMarked k.words new (record { first = 256 * k.region.reserved + 2; pages = 254; mark = free_mark }) → IsOpened k.words new k.region.reserved
+pub opened : (k : Pages) (new : List ℕ) → AreSound k → k.region.reserved < k.region.segments → IsMarked k.words new (record { first = 256 * k.region.reserved + 2; pages = 254; mark = free_mark }) → IsOpened k.words new k.region.reserved
 opened k new s less i =
     let old = k.words in
     let n = k.region.reserved in

@@ -8,8 +8,9 @@ use Rattle.page_ranges.specs.Ranges.{IsRun, IsMarked}
 use Rattle.heap_model.specs.Marks.{free_mark}
 use Rattle.page_ranges.specs.Spans.{is_of_free, taken_runs, is_usable_in, IsUsed, AreApart}
 use Rattle.page_ranges.proofs.Runs.{runs_le, run_kept, Parts, and_right_false}
-use Rattle.backend_fit.specs.Kept.{Kept, marked_run, insert_run}
-use Rattle.backend_fit.specs.Sound.{IsSound, IsSpanMark}
+use Rattle.backend_fit.specs.Pages.{Pages}
+use Rattle.backend_fit.specs.Effects.{marked_run, insert_run}
+use Rattle.backend_fit.specs.Sound.{AreSound, IsSpanMark}
 use Rattle.backend_fit.proofs.KindLemmas.{span_not_header, free_not_header, span_not_free, free_not_span}
 use Rattle.backend_fit.proofs.Tiled.{all_parts, last_free, apart_append, apart_parts, apart_weaker, Tiled, changed, insert_front, insert_here}
 
@@ -20,7 +21,7 @@ pub record IsPlaced (old new : List ℕ) (reserved : ℕ) (r : real.Run) (n : �
   pub tiled : Tiled new reserved runs
   pub taken : taken_runs runs ≡ insert_run (marked_run r.first n m) (taken_runs (runs_of old))
 
-module _ (k : Kept) (r : real.Run) (n : ℕ) (m : Mark) (s : IsSound k)
+module _ (k : Pages) (r : real.Run) (n : ℕ) (m : Mark) (s : AreSound k)
     (p : Parts k.words 0 (length k.words) (runs_of k.words) r) (free : is_of_free r.mark.kind ≡ true)
     (some : 0 < n) (m_is : IsSpanMark m) where
   abbrev the_taken : real.Run

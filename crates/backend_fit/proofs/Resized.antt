@@ -17,9 +17,10 @@ use Rattle.page_ranges.specs.Ranges.{AreRuns, IsRun, IsMarked, IsInSegment, has_
 use Rattle.heap_model.specs.Marks.{free_mark}
 use Rattle.page_ranges.proofs.Runs.{runs_le, Parts}
 use Rattle.page_ranges.specs.Spans.{is_of_span, is_of_free, taken_runs, span_of, frees_in, is_usable_in}
-use Rattle.backend_fit.specs.Kept.{Kept, area_of, taken_in, starts_at, marked_run, marked_span, with_mark, with_size, reach_of}
+use Rattle.backend_fit.specs.Pages.{Pages, pages_area, taken_in}
+use Rattle.backend_fit.specs.Effects.{starts_at, marked_run, marked_span, with_mark, with_size, reach_of}
 use Rattle.heap_model.specs.Marks.{back_mark}
-use Rattle.backend_fit.specs.Sound.{IsSound, IsSpan, IsSpanMark, end_of}
+use Rattle.backend_fit.specs.Sound.{AreSound, IsSpan, IsSpanMark, end_of}
 use Rattle.backend_fit.proofs.Tiled.{Tiled, tells, sound_of, change_front, spans_change}
 use Rattle.backend_fit.proofs.KindLemmas.{span_not_free}
 use Rattle.backend_fit.proofs.Sides.{RightSide, run_tells, run_is}
@@ -82,8 +83,8 @@ find_front words from first (r ∷ rs) zs a =
       | inr s ↦ rw s again
     ]
 
-module _ (k : Kept) (r : real.Run) (s : IsSound k) (i : IsSpan k.words r) where
-  pub reach_is : run_from (free_runs (area_of k)) (r.first + r.pages) ≡ end_of k.words (r.first + r.pages) - (r.first + r.pages)
+module _ (k : Pages) (r : real.Run) (s : AreSound k) (i : IsSpan k.words r) where
+  pub reach_is : run_from (free_runs (pages_area k)) (r.first + r.pages) ≡ end_of k.words (r.first + r.pages) - (r.first + r.pages)
   reach_is =
       let p = parts k r s i in
       let e = r.first + r.pages in
@@ -163,8 +164,8 @@ module _ (k : Kept) (r : real.Run) (s : IsSound k) (i : IsSpan k.words r) where
         taken = c.taken ∙ ap (λ (xs : List real.Run). taken_runs p.before ++ x ∷ xs) h.taken ∙ sym old;
       }
 
-module _ (k : Kept) (region : Held) (new : List ℕ) (first n : ℕ) (m : Mark) (s : IsSound k) (f : IsResized k.words new k.region.reserved first n m) (held : IsHeld region) (reserved : region.reserved ≡ k.region.reserved) (segments : region.segments ≡ k.region.segments) where
-  pub resized_sound : IsSound (record { region = region; words = new })
+module _ (k : Pages) (region : Held) (new : List ℕ) (first n : ℕ) (m : Mark) (s : AreSound k) (f : IsResized k.words new k.region.reserved first n m) (held : IsHeld region) (reserved : region.reserved ≡ k.region.reserved) (segments : region.segments ≡ k.region.segments) where
+  pub resized_sound : AreSound (record { region = region; words = new })
   resized_sound =
       let t : Tiled new region.reserved f.runs = subst (λ x. Tiled new x f.runs) (sym reserved) f.tiled in
       sound_of (record { region = region; words = new }) f.runs held (f.same_length ∙ s.pages ∙ ap (λ x. 256 * x) (sym segments)) t
@@ -173,8 +174,8 @@ module _ (k : Kept) (region : Held) (new : List ℕ) (first n : ℕ) (m : Mark) 
   resized_taken = ap taken_runs (tells new k.region.reserved f.runs f.tiled) ∙ f.taken
 
   pub resized_area : (r : real.Run) → find (starts_at first) (taken_in k.words) ≡ Some r → is_kind r.mark.kind kinds.Back ≡ true → span_of (with_mark n m r) ≡ with_pages n (span_of r) →
-      committed_of region ≡ commit first n (committed_of k.region) → area_of (record { region = region; words = new }) ≡ with_size (area_of k) first n
-  resized_area r g b e c = area_is (area_of (record { region = region; words = new })) (with_size (area_of k) first n) reserved c (ap (map span_of) resized_taken ∙ spans_change first n m (taken_in k.words) r g b e)
+      committed_of region ≡ commit first n (committed_of k.region) → pages_area (record { region = region; words = new }) ≡ with_size (pages_area k) first n
+  resized_area r g b e c = area_is (pages_area (record { region = region; words = new })) (with_size (pages_area k) first n) reserved c (ap (map span_of) resized_taken ∙ spans_change first n m (taken_in k.words) r g b e)
 
 ---- What a back end shows
 
@@ -192,7 +193,7 @@ same_span words r n unused i e = elim i.kept [
 pub block_mark_is : (unused : ℕ) → IsSpanMark (back_mark unused)
 block_mark_is unused = record { mark = record { used = refl; of_lfh = λ e. (refl, refl); of_back = λ e. let no : ⊥ = cc in absurd no }; kind = refl }
 
-span_is : (k : Kept) (first : ℕ) (r : real.Run) (x : Span) → IsSound k → span_at (area_of k) first ≡ Some x → find (has_page first) (runs_of k.words) ≡ Some r → marked_span r.first r.pages r.mark ≡ x
+span_is : (k : Pages) (first : ℕ) (r : real.Run) (x : Span) → AreSound k → span_at (pages_area k) first ≡ Some x → find (has_page first) (runs_of k.words) ≡ Some r → marked_span r.first r.pages r.mark ≡ x
 span_is k first r x s e f =
     let h = span_here k.words 0 (runs_of k.words) first x s.whole e in
     let is = run_is k.words first r s.whole h.inside f in
@@ -201,38 +202,38 @@ span_is k first r x s e f =
     subst (λ (w : real.Run). marked_span w.first w.pages w.mark ≡ x) (sym is) a
 
 -- the span that is read, where a back end shows one
-shown_span : (k v : Kept) (first : ℕ) (r : real.Run) → k ≡ v → IsSound k → IsSome (span_at (area_of v) first) → find (has_page first) (runs_of k.words) ≡ Some r →
-    span_at (area_of v) first ≡ Some (marked_span r.first r.pages r.mark)
+shown_span : (k v : Pages) (first : ℕ) (r : real.Run) → k ≡ v → AreSound k → IsSome (span_at (pages_area v) first) → find (has_page first) (runs_of k.words) ≡ Some r →
+    span_at (pages_area v) first ≡ Some (marked_span r.first r.pages r.mark)
 shown_span k v first r e s h f =
-    let o = some_of (span_at (area_of k) first) (subst (λ (w : Kept). IsSome (span_at (area_of w) first)) (sym e) h) in
+    let o = some_of (span_at (pages_area k) first) (subst (λ (w : Pages). IsSome (span_at (pages_area w) first)) (sym e) h) in
     let x = span_is k first r o.0 s o.1 f in
-    let here : span_at (area_of k) first ≡ Some (marked_span r.first r.pages r.mark) = o.1 ∙ ap (λ (y : Span). Some y) (sym x) in
-    subst (λ (w : Kept). span_at (area_of w) first ≡ Some (marked_span r.first r.pages r.mark)) e here
+    let here : span_at (pages_area k) first ≡ Some (marked_span r.first r.pages r.mark) = o.1 ∙ ap (λ (y : Span). Some y) (sym x) in
+    subst (λ (w : Pages). span_at (pages_area w) first ≡ Some (marked_span r.first r.pages r.mark)) e here
 
-pub shown_reach : (k v : Kept) (first end : ℕ) (r : real.Run) → k ≡ v → IsSound k → IsSome (span_at (area_of v) first) → find (has_page first) (runs_of k.words) ≡ Some r → end ≡ end_of k.words (r.first + r.pages) →
-    reach_of (area_of v) (span_at (area_of v) first) ≡ end - r.first
+pub shown_reach : (k v : Pages) (first end : ℕ) (r : real.Run) → k ≡ v → AreSound k → IsSome (span_at (pages_area v) first) → find (has_page first) (runs_of k.words) ≡ Some r → end ≡ end_of k.words (r.first + r.pages) →
+    reach_of (pages_area v) (span_at (pages_area v) first) ≡ end - r.first
 shown_reach k v first end r e s h f g =
     let i = (shown_run k v first r e s h f).0 in
     let b = bounds k r s i in
     let reach = reach_is k r s i in
-    let from : run_from (free_runs (area_of v)) (r.first + r.pages) ≡ end_of k.words (r.first + r.pages) - (r.first + r.pages) = subst (λ (w : Kept). run_from (free_runs (area_of w)) (r.first + r.pages) ≡ end_of k.words (r.first + r.pages) - (r.first + r.pages)) e reach in
-    ap (reach_of (area_of v)) (shown_span k v first r e s h f) ∙ rw from (omega (arith, b))
+    let from : run_from (free_runs (pages_area v)) (r.first + r.pages) ≡ end_of k.words (r.first + r.pages) - (r.first + r.pages) = subst (λ (w : Pages). run_from (free_runs (pages_area w)) (r.first + r.pages) ≡ end_of k.words (r.first + r.pages) - (r.first + r.pages)) e reach in
+    ap (reach_of (pages_area v)) (shown_span k v first r e s h f) ∙ rw from (omega (arith, b))
 
-pub shown_kind : (k v : Kept) (first : ℕ) (r : real.Run) → k ≡ v → IsSound k → IsSome (span_at (area_of v) first) → IfSome (span_at (area_of v) first) (λ (x : Span). x.kind ≡ kinds.Back) → find (has_page first) (runs_of k.words) ≡ Some r → r.mark.kind ≡ kinds.Back
+pub shown_kind : (k v : Pages) (first : ℕ) (r : real.Run) → k ≡ v → AreSound k → IsSome (span_at (pages_area v) first) → IfSome (span_at (pages_area v) first) (λ (x : Span). x.kind ≡ kinds.Back) → find (has_page first) (runs_of k.words) ≡ Some r → r.mark.kind ≡ kinds.Back
 shown_kind k v first r e s h j f =
     let is = shown_span k v first r e s h f in
     let t : IfSome (Some (marked_span r.first r.pages r.mark)) (λ (x : Span). x.kind ≡ kinds.Back) = subst (λ (o : Option Span). IfSome o (λ (x : Span). x.kind ≡ kinds.Back)) is j in
     t
 
-pub shown_same : (k v : Kept) (first n unused : ℕ) (r : real.Run) → k ≡ v → IsSound k → IsSome (span_at (area_of v) first) → IfSome (span_at (area_of v) first) (λ (x : Span). x.kind ≡ kinds.Back) → find (has_page first) (runs_of k.words) ≡ Some r →
+pub shown_same : (k v : Pages) (first n unused : ℕ) (r : real.Run) → k ≡ v → AreSound k → IsSome (span_at (pages_area v) first) → IfSome (span_at (pages_area v) first) (λ (x : Span). x.kind ≡ kinds.Back) → find (has_page first) (runs_of k.words) ≡ Some r →
     marked_span r.first n (back_mark unused) ≡ with_pages n (span_of r)
 shown_same k v first n unused r e s h j f =
     let i = (shown_run k v first r e s h f).0 in
     let p = parts k r s i in
     same_span k.words r n unused p.is_run (shown_kind k v first r e s h j f)
 
-pub shown_size : (k v : Kept) (a : Area) (first first' n : ℕ) → k ≡ v → first ≡ first' → a ≡ with_size (area_of k) first n → a ≡ with_size (area_of v) first' n
-shown_size k v a first first' n e f g = g ∙ ap (λ m. with_size (area_of k) m n) f ∙ ap (λ (w : Kept). with_size (area_of w) first' n) e
+pub shown_size : (k v : Pages) (a : Area) (first first' n : ℕ) → k ≡ v → first ≡ first' → a ≡ with_size (pages_area k) first n → a ≡ with_size (pages_area v) first' n
+shown_size k v a first first' n e f g = g ∙ ap (λ m. with_size (pages_area k) m n) f ∙ ap (λ (w : Pages). with_size (pages_area w) first' n) e
 
-pub shown_change : (k v : Kept) (new : List ℕ) (first first' n : ℕ) (m : Mark) → k ≡ v → first ≡ first' → taken_in new ≡ change_found (starts_at first) (with_mark n m) (taken_in k.words) → taken_in new ≡ change_found (starts_at first') (with_mark n m) (taken_in v.words)
-shown_change k v new first first' n m e f g = g ∙ ap (λ x. change_found (starts_at x) (with_mark n m) (taken_in k.words)) f ∙ ap (λ (w : Kept). change_found (starts_at first') (with_mark n m) (taken_in w.words)) e
+pub shown_change : (k v : Pages) (new : List ℕ) (first first' n : ℕ) (m : Mark) → k ≡ v → first ≡ first' → taken_in new ≡ change_found (starts_at first) (with_mark n m) (taken_in k.words) → taken_in new ≡ change_found (starts_at first') (with_mark n m) (taken_in v.words)
+shown_change k v new first first' n m e f g = g ∙ ap (λ x. change_found (starts_at x) (with_mark n m) (taken_in k.words)) f ∙ ap (λ (w : Pages). change_found (starts_at first') (with_mark n m) (taken_in w.words)) e

@@ -13,8 +13,9 @@ use Rattle.page_ranges.specs.Ranges.{IsMarked, IsInSegment, has_page}
 use Rattle.heap_model.specs.Marks.{free_mark}
 use Rattle.page_ranges.proofs.Runs.{Parts, parts_of, runs_le}
 use Rattle.page_ranges.specs.Spans.{taken_runs, span_of, frees_in, plain, is_usable_in, IsUsed}
-use Rattle.backend_fit.specs.Kept.{Kept, area_of, taken_in, with_segment}
-use Rattle.backend_fit.specs.Sound.{IsSound, IsFreeRun, IsSpanMark}
+use Rattle.backend_fit.specs.Pages.{Pages, pages_area, taken_in}
+use Rattle.backend_fit.specs.Effects.{with_segment}
+use Rattle.backend_fit.specs.Sound.{AreSound, IsFreeRun, IsSpanMark}
 use Rattle.backend_fit.proofs.Least.{fitting_all, least_all}
 use Rattle.backend_fit.proofs.Tiled.{all_parts, frees_found, free_one, tells, sound_of, Tiled}
 use Rattle.backend_fit.proofs.Placed.{IsPlaced, placed_whole, placed_part}
@@ -23,7 +24,7 @@ use Rattle.backend_fit.proofs.Open.{IsOpened, opened}
 use Rattle.backend_fit.proofs.Area.{area_is}
 use Rattle.backend_fit.proofs.Segment.{frees_of, in_segment}
 
-module _ (k : Kept) (first pages : ℕ) (s : IsSound k) (f : IsFreeRun k.words first pages) where
+module _ (k : Pages) (first pages : ℕ) (s : AreSound k) (f : IsFreeRun k.words first pages) where
   abbrev the_run : real.Run
   the_run = record { first = first; pages = pages; mark = f.mark }
 
@@ -61,17 +62,17 @@ module _ (k : Kept) (first pages : ℕ) (s : IsSound k) (f : IsFreeRun k.words f
   placed n m middle new some within i t (inr h) = placed_part k the_run n m s parts f.free some i middle new h.0 t h.1
 
 -- the best fit is a free run
-pub best_is_free : (k : Kept) (n : ℕ) (r : real.Run) → IsSound k → Some (plain r) ≡ least (is_better (area_of k)) (fitting n (free_runs (area_of k))) → IsFreeRun k.words r.first r.pages × (n ≤ r.pages)
+pub best_is_free : (k : Pages) (n : ℕ) (r : real.Run) → AreSound k → Some (plain r) ≡ least (is_better (pages_area k)) (fitting n (free_runs (pages_area k))) → IsFreeRun k.words r.first r.pages × (n ≤ r.pages)
 best_is_free k n r s e =
     let P : Run → Type 0 = λ q. IsFreeRun k.words q.first q.count × (n ≤ q.count) in
     let all = fitting_all (λ q. IsFreeRun k.words q.first q.count) n (frees_in (runs_of k.words)) (frees_found k.words 0 (runs_of k.words) s.whole s.whole) in
-    let all' : AllByRecursion P (fitting n (free_runs (area_of k))) = subst (λ (qs : List Run). AllByRecursion P (fitting n qs)) (sym (frees_of k s)) all in
-    least_all P (is_better (area_of k)) (fitting n (free_runs (area_of k))) (plain r) all' (sym e)
+    let all' : AllByRecursion P (fitting n (free_runs (pages_area k))) = subst (λ (qs : List Run). AllByRecursion P (fitting n qs)) (sym (frees_of k s)) all in
+    least_all P (is_better (pages_area k)) (fitting n (free_runs (pages_area k))) (plain r) all' (sym e)
 
 pub same_segment : (a : Area) (first : ℕ) → first < 256 * a.reserved → with_segment a first ≡ a
 same_segment a first l = let t : ltb (first / 256) a.reserved ≡ true = lt-ltb (first / 256) a.reserved (omega arith) in rw t refl
 
-module _ (k : Kept) (new : List ℕ) (segment : ℕ) (s : IsSound k) (less : segment < k.region.segments) (e : segment ≡ k.region.reserved)
+module _ (k : Pages) (new : List ℕ) (segment : ℕ) (s : AreSound k) (less : segment < k.region.segments) (e : segment ≡ k.region.reserved)
     (i : IsMarked k.words new (record { first = 256 * segment + 2; pages = 254; mark = free_mark })) where
   abbrev more : Held
   more = record k.region { reserved = segment + 1 }
@@ -79,7 +80,7 @@ module _ (k : Kept) (new : List ℕ) (segment : ℕ) (s : IsSound k) (less : seg
   it : IsOpened k.words new k.region.reserved
   it = opened k new s (rw (sym e) less) (subst (λ x. IsMarked k.words new (record { first = 256 * x + 2; pages = 254; mark = free_mark })) e i)
 
-  pub opened_sound : IsSound (record { region = more; words = new })
+  pub opened_sound : AreSound (record { region = more; words = new })
   opened_sound =
       let o = it in
       sound_of (record { region = more; words = new }) o.runs
@@ -88,11 +89,11 @@ module _ (k : Kept) (new : List ℕ) (segment : ℕ) (s : IsSound k) (less : seg
   pub opened_taken : taken_in new ≡ taken_in k.words
   opened_taken = let o = it in ap taken_runs (tells new (k.region.reserved + 1) o.runs o.tiled) ∙ o.taken
 
-  pub opened_area : area_of (record { region = more; words = new }) ≡ with_segment (area_of k) (256 * segment + 2)
+  pub opened_area : pages_area (record { region = more; words = new }) ≡ with_segment (pages_area k) (256 * segment + 2)
   opened_area =
       let o = it in
       let t : ltb ((256 * segment + 2) / 256) k.region.reserved ≡ false = le-ltb ((256 * segment + 2) / 256) k.region.reserved (omega arith) in
-      area_is (area_of (record { region = more; words = new })) (with_segment (area_of k) (256 * segment + 2)) (rw t (ap (λ x. x + 1) e)) refl
+      area_is (pages_area (record { region = more; words = new })) (with_segment (pages_area k) (256 * segment + 2)) (rw t (ap (λ x. x + 1) e)) refl
       (ap (map span_of) opened_taken)
 
   pub opened_free : IsFreeRun new (256 * segment + 2) 254

@@ -12,8 +12,8 @@ use Rattle.page_ranges.specs.Ranges.{IsInSegment, is_open}
 use Rattle.page_ranges.specs.Spans.{frees_in, is_usable_in, IsUsed, AreSettled}
 use Rattle.page_ranges.proofs.Runs.{Found, found}
 use Rattle.page_ranges.proofs.FreeRuns.{frees_are}
-use Rattle.backend_fit.specs.Kept.{Kept, area_of}
-use Rattle.backend_fit.specs.Sound.{IsSound}
+use Rattle.backend_fit.specs.Pages.{Pages, pages_area}
+use Rattle.backend_fit.specs.Sound.{AreSound}
 use Rattle.backend_fit.proofs.Tiled.{all_parts}
 
 -- no word of a run is 0
@@ -21,13 +21,13 @@ word_some : (r : real.Run) (k : ℕ) → eqb (word_in r k) 0 ≡ false
 word_some r zero = ne_eqb (word_in r zero) 0 (λ e. omega arith)
 word_some r (suc k) = ne_eqb (word_in r (suc k)) 0 (λ e. omega arith)
 
-pub settled : (k : Kept) → IsSound k → AreSettled k.region.reserved k.words
+pub settled : (k : Pages) → AreSound k → AreSettled k.region.reserved k.words
 settled k s = record { inside = omega (arith, s.pages, s.held.reserved); whole = s.whole; used = s.used; apart = s.apart }
 
-pub frees_of : (k : Kept) → IsSound k → free_runs (area_of k) ≡ frees_in (runs_of k.words)
+pub frees_of : (k : Pages) → AreSound k → free_runs (pages_area k) ≡ frees_in (runs_of k.words)
 frees_of k s = frees_are k.region.reserved (committed_of k.region) k.words (settled k s)
 
-module _ (k : Kept) (s : IsSound k) (page : ℕ) (l : page < length k.words) where
+module _ (k : Pages) (s : AreSound k) (page : ℕ) (l : page < length k.words) where
   the_run : real.Run
   the_run = run_of_page k.words page
 
@@ -85,7 +85,7 @@ usable_parts reserved page t =
     let p = and_parts (ltb (page / 256) reserved) (leb 2 (page % 256)) t in
     (ltb-true (page / 256) reserved p.0, leb-true 2 (page % 256) p.1)
 
-pub in_segment : (k : Kept) (first n : ℕ) → IsSound k → 0 < n → ((page : ℕ) → first ≤ page → page < first + n → is_usable_in k.region.reserved page ≡ true) → IsInSegment k.words first n
+pub in_segment : (k : Pages) (first n : ℕ) → AreSound k → 0 < n → ((page : ℕ) → first ≤ page → page < first + n → is_usable_in k.region.reserved page ≡ true) → IsInSegment k.words first n
 in_segment k first n s some usable =
     let p = usable_parts k.region.reserved first (usable first (omega arith) (omega arith)) in
     record { behind = p.1; below = below (cases_lt 256 (first % 256 + n)); open_one = opened p.0 }
@@ -104,7 +104,7 @@ in_segment k first n s some usable =
         let w = usable_word k s page (omega (arith, s.pages, s.held.reserved)) t in
         rw w refl
 
-pub not_open : (k : Kept) (segment : ℕ) → IsSound k → segment ≡ k.region.reserved → segment < k.region.segments → is_open k.words segment ≡ false
+pub not_open : (k : Pages) (segment : ℕ) → AreSound k → segment ≡ k.region.reserved → segment < k.region.segments → is_open k.words segment ≡ false
 not_open k segment s e l =
     let page = 256 * segment + 2 in
     let out : ltb (page / 256) k.region.reserved ≡ false = le-ltb (page / 256) k.region.reserved (omega arith) in

@@ -13,8 +13,9 @@ use Rattle.page_ranges.specs.Words.{runs_of, run_of_page}
 use Rattle.page_ranges.specs.Ranges.{AreRuns, IsRun, IsWhole}
 use Rattle.page_ranges.proofs.Runs.{runs_only, runs_le, runs_kept, runs_append, finds_run, page_tells}
 use Rattle.page_ranges.specs.Spans.{is_of_span, is_of_free, taken_runs, span_of, frees_in, IsUsed, AreApart}
-use Rattle.backend_fit.specs.Kept.{Kept, starts_at, insert_run, with_mark}
-use Rattle.backend_fit.specs.Sound.{IsSound, IsFreeRun}
+use Rattle.backend_fit.specs.Pages.{Pages}
+use Rattle.backend_fit.specs.Effects.{starts_at, insert_run, with_mark}
+use Rattle.backend_fit.specs.Sound.{AreSound, IsFreeRun}
 
 pub all_append : (P : real.Run → Type 0) (xs ys : List real.Run) → AllByRecursion P xs → AllByRecursion P ys → AllByRecursion P (xs ++ ys)
 all_append P [] ys a b = b
@@ -50,7 +51,7 @@ pub record Tiled (words : List ℕ) (reserved : ℕ) (rs : List real.Run) : Type
 pub tells : (words : List ℕ) (reserved : ℕ) (rs : List real.Run) → Tiled words reserved rs → runs_of words ≡ rs
 tells words reserved rs t = runs_only words 0 rs t.runs
 
-pub sound_of : (k : Kept) (rs : List real.Run) → IsHeld k.region → length k.words ≡ 256 * k.region.segments → Tiled k.words k.region.reserved rs → IsSound k
+pub sound_of : (k : Pages) (rs : List real.Run) → IsHeld k.region → length k.words ≡ 256 * k.region.segments → Tiled k.words k.region.reserved rs → AreSound k
 sound_of k rs h l t =
     let e = sym (tells k.words k.region.reserved rs t) in
     record {

@@ -1,71 +1,61 @@
--- What a back end keeps, and the area that this stands for.
-use Rattle.std.specs.Prelude.{ℕ, ◌+◌, ◌/◌, ◌==◌, Bool, ◌&&◌, not, nat_lt, List, [], ◌∷◌, Option, Some, None, if◌then◌else◌}
+-- What a back end keeps, and what this stands for.
+use Rattle.std.specs.Prelude.{◌≡◌, ℕ, ◌*◌, ◌==◌, Bool, ◌&&◌, List, [], map, filter}
 use Rattle.heap_model.specs.declared.Kind.TheVariants as kinds
-use Rattle.heap_model.specs.declared.Mark.{Mark}
+use Rattle.heap_model.specs.declared.Limits.{Limits}
+use Rattle.heap_model.specs.declared.Opening.{Opening}
 use Rattle.heap_model.specs.declared.Run.{Run}
-use Rattle.heap_model.specs.State.{Area, Span, change_found, remove_found}
-use Rattle.heap_model.specs.Backend.{free_runs, is_free}
-use Rattle.heap_model.specs.Stay.{run_from}
-use Rattle.heap_model.specs.Search.{begins_at}
-use Rattle.heap_model.specs.Legal.{commit, is_back_at, with_pages}
-use Rattle.page_region.specs.Held.{Held, committed_of}
-use Rattle.page_ranges.specs.Words.{runs_of}
-use Rattle.page_ranges.specs.Spans.{span_of, taken_runs, area_in}
+use Rattle.heap_model.specs.declared.What.TheVariants as whats
+use Rattle.heap_model.specs.State.{State, Area, BackPart, Place, is_kind, opening}
+use Rattle.heap_model.specs.Layers.{LayerState, StandsForBack}
+use Rattle.page_region.specs.Held.{Held}
+use Rattle.backend_fit.specs.Effects.{place_of}
+use Rattle.backend_fit.specs.Pages.{Pages, pages_area, taken_in}
 
+-- the limits that it was made for, its region, and the words of its descriptors
 pub record Kept : Type 0 where
+  pub limits : Limits
   pub region : Held
   pub words : List ℕ
 
+abbrev pub pages_in : Kept → Pages
+pages_in k = record { region = k.region; words = k.words }
+
 -- the reserved segments, the committed pages and the spans
 abbrev pub area_of : Kept → Area
-area_of k = area_in k.region.reserved (committed_of k.region) k.words
+area_of k = pages_area (pages_in k)
 
--- the runs that are spans, by place, each with its mark
-abbrev pub taken_in : List ℕ → List Run
-taken_in words = taken_runs (runs_of words)
+-- the runs of its spans, by place, each with its mark
+abbrev pub spans_of : Kept → List Run
+spans_of k = taken_in k.words
 
----- The effects on an area
+---- Blocks
 
--- the area with the segment of this page reserved
-abbrev pub with_segment : Area → ℕ → Area
-with_segment a page = record { reserved = (if nat_lt (page / 256) a.reserved then a.reserved else a.reserved + 1); committed = a.committed; spans = a.spans }
+-- a run that is a block of the back end
+abbrev pub is_block_run : Run → Bool
+is_block_run r = is_kind r.mark.kind kinds.Back
 
--- the area without the span that starts at a page, whose pages stay committed
-abbrev pub without_span : Area → ℕ → Area
-without_span a first = record { reserved = a.reserved; committed = a.committed; spans = remove_found (begins_at first) a.spans }
+pub record IsBlockRun (r : Run) : Type 0 where
+  pub kind : r.mark.kind ≡ kinds.Back
 
--- the area with n pages in the back-end span that starts at a page, all of them committed
-abbrev pub with_size : Area → ℕ → ℕ → Area
-with_size a first n = record { reserved = a.reserved; committed = commit first n a.committed; spans = change_found (is_back_at first) (with_pages n) a.spans }
+-- the blocks among the runs of words, by place
+abbrev pub block_runs : List ℕ → List Run
+block_runs words = filter is_block_run (taken_in words)
 
--- the pages of a span and of the free run right behind it
-abbrev pub reach_of : Area → Option Span → ℕ
-reach_of a None = 0
-reach_of a (Some x) = x.pages + run_from (free_runs a) (x.first + x.pages)
+-- a block of the back end begins at this address
+abbrev pub is_block_at : ℕ → Run → Bool
+is_block_at addr r = is_block_run r && 4096 * r.first == addr
 
--- the area with no free page committed
-abbrev pub decommitted : Area → Area
-decommitted a = record { reserved = a.reserved; committed = λ page. a.committed page && not (is_free a page); spans = a.spans }
+abbrev pub places_in : Kept → List Place
+places_in k = map place_of (block_runs k.words)
 
--- a page that is committed and free
-abbrev pub is_idle : Area → ℕ → Bool
-is_idle a page = a.committed page && is_free a page
+---- What it stands for
 
----- .. and on the runs with their marks
+abbrev pub part_of : Kept → BackPart
+part_of k = record { area = area_of k; places = places_in k }
 
-abbrev pub starts_at : ℕ → Run → Bool
-starts_at first r = r.first == first
+abbrev pub layer_of : Kept → LayerState
+layer_of k = record { lock = whats.Back; limits = k.limits; key = 0; back = part_of k; vs = opening.vs; vs_spans = []; large = [] }
 
-abbrev pub insert_run : Run → List Run → List Run
-insert_run x [] = x ∷ []
-insert_run x (y ∷ ys) = if nat_lt x.first y.first then x ∷ y ∷ ys else y ∷ insert_run x ys
-
-abbrev pub marked_run : ℕ → ℕ → Mark → Run
-marked_run first pages m = record { first = first; pages = pages; mark = m }
-
-abbrev pub marked_span : ℕ → ℕ → Mark → Span
-marked_span first pages m = span_of (marked_run first pages m)
-
--- the run with so many pages and another mark
-abbrev pub with_mark : ℕ → Mark → Run → Run
-with_mark pages m r = record { first = r.first; pages = pages; mark = m }
+-- For each state that the old one stands for, the new one stands for those whose back end is what becomes of it.
+abbrev pub Becomes : Kept → Kept → (BackPart → BackPart) → Type 0
+Becomes old new f = (o : Opening) (st later : State) → StandsForBack o st (layer_of old) → later.back ≡ f st.back → StandsForBack o later (layer_of new)

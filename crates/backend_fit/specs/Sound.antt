@@ -7,9 +7,22 @@ use Rattle.page_region.specs.Held.{IsHeld}
 use Rattle.page_ranges.specs.Words.{runs_of, run_of_page}
 use Rattle.page_ranges.specs.Ranges.{IsWhole, IsMark, has_page}
 use Rattle.page_ranges.specs.Spans.{is_of_free, is_of_span, IsUsed, AreApart}
+use Rattle.heap_model.specs.Limits.{AreValid}
 use Rattle.backend_fit.specs.Kept.{Kept}
+use Rattle.backend_fit.specs.Pages.{Pages}
 
+-- of its pages
+pub record AreSound (k : Pages) : Type 0 where
+  pub held : IsHeld k.region
+  pub pages : length k.words ≡ 256 * k.region.segments
+  pub whole : IsWhole k.words
+  pub used : AllByRecursion (IsUsed k.region.reserved) (runs_of k.words)
+  pub apart : AreApart false (runs_of k.words)
+
+-- .. and of all that it keeps
 pub record IsSound (k : Kept) : Type 0 where
+  pub limits : AreValid k.limits
+  pub segments : k.region.segments ≡ k.limits.segments
   pub held : IsHeld k.region
   pub pages : length k.words ≡ 256 * k.region.segments
   pub whole : IsWhole k.words

@@ -17,33 +17,37 @@ ghost use Rattle.std.specs.List.{find};
 ghost use Rattle.heap_model.specs.declared.Kind.TheVariants as kinds;
 ghost use Rattle.heap_model.specs.Limits.{AreValid};
 ghost use Rattle.heap_model.specs.Runs.{fitting, least};
-ghost use Rattle.heap_model.specs.State.{change_found, remove_found};
+ghost use Rattle.heap_model.specs.declared.Opening.{Opening};
+ghost use Rattle.heap_model.specs.Layers.{StandsForBack};
+ghost use Rattle.heap_model.specs.State.{change_found, remove_found, opening};
 ghost use Rattle.heap_model.specs.Backend.{numbers, is_usable, free_runs, is_better, back_place, next_segment};
 ghost use Rattle.heap_model.specs.Search.{span_at};
-ghost use Rattle.heap_model.specs.Legal.{with_span};
+ghost use Rattle.heap_model.specs.Legal.{with_span, with_area};
 ghost use Rattle.page_region.specs.Held.{IsHeld};
 ghost use Rattle.page_ranges.specs.Words.{runs_of};
 ghost use Rattle.page_ranges.specs.Ranges.{IsWhole, has_page};
 ghost use Rattle.page_ranges.specs.Spans.{is_of_free, plain, AreSettled};
-ghost use Rattle.backend_fit.specs.Kept.{Kept, area_of, taken_in, with_segment, marked_run, marked_span, insert_run, starts_at, with_mark, without_span, with_size, reach_of, is_idle, decommitted};
+ghost use Rattle.backend_fit.specs.Pages.{pages_area, taken_in};
+ghost use Rattle.backend_fit.specs.Kept.{area_of, spans_of, layer_of, Becomes};
+ghost use Rattle.backend_fit.specs.Effects.{part_with, part_without, part_resized, with_segment, marked_run, marked_span, insert_run, starts_at, with_mark, without_span, with_size, reach_of, is_idle, decommitted};
 ghost use Rattle.heap_model.specs.Marks.{back_mark};
-ghost use Rattle.backend_fit.specs.Sound.{IsSound, IsFreeRun, IsSpan, IsSpanMark, start_of, end_of};
+ghost use Rattle.backend_fit.specs.Sound.{AreSound, IsSound, IsFreeRun, IsSpan, IsSpanMark, start_of, end_of};
 ghost use Rattle.backend_fit.specs.Best.{with_run};
 
-use heap_model::{Kind, Limits, Mark, OutOfMemory, Run};
-use page_ranges::{Descs, FREE};
+use heap_model::{HEADER_PAGES, Kind, Limits, Mark, OutOfMemory, Run, SEGMENT_PAGES, Stands};
+use page_ranges::Descs;
 use page_region::Region;
 use std::alloc::Global;
 use std::marker::Model;
 
-const SEGMENT_PAGES: u32 = 256;
-
-/// A back end: its region and the descriptors of its pages.
+/// A back end: its region and the descriptors of its pages, made for some limits.
 ///
-/// Contracts see what the two keep. `area_of` is the area that it stands for: its reserved segments, its committed pages and
-/// its spans. `taken_in` are the runs of its spans by place, each with its mark and so with its unused bytes.
+/// Contracts see what it keeps by what this stands for. `area_of` are its reserved segments, its committed pages and its spans,
+/// `spans_of` the runs of its spans by place, each with its mark and so with its unused bytes, and `layer_of` the part of a heap
+/// that the lock of the back end guards. No call after `new` takes memory.
 #[derive(Drop)]
 pub struct Back {
+    limits: Limits,
     region: Region,
     descs: Descs,
 }
@@ -54,22 +58,33 @@ impl Model for Back {
 
     ghost Value = { Kept };
 
-    ghost view = { λ b. record { region = b.region; words = b.descs } };
+    ghost view = { λ b. record { limits = b.limits; region = b.region; words = b.descs } };
 
-    ghost invariant = { λ b. IsSound (record { region = b.region; words = b.descs }) };
+    ghost invariant = { λ b. IsSound (record { limits = b.limits; region = b.region; words = b.descs }) };
+}
+
+impl Stands for Back {
+    ghost use Rattle.backend_fit.specs.Kept.{layer_of};
+
+    ghost stands = { λ b. layer_of b };
 }
 
 impl Back {
     /// A back end with no segment reserved. It takes all the memory that it will ever use.
     pub fn new(alloc: Global, limits: &Limits) -> Result<Back, OutOfMemory>
         requires { AreValid limits.now }
-        ensures area { IfOk result (λ b. area_of b ≡ record { reserved = 0; committed = λ _. false; spans = [] }) }
-        ensures marks { IfOk result (λ b. taken_in b.words ≡ []) }
-        ensures segments { IfOk result (λ b. b.region.segments ≡ limits.now.segments) }
+        ensures area { IfOk result (λ b. area_of b ≡ opening.back.area) }
+        ensures spans { IfOk result (λ b. spans_of b ≡ []) }
+        ensures limits { IfOk result (λ b. b.limits ≡ limits.now) }
+        ensures stands { IfOk result (λ b. (o : Opening) → o.limits ≡ limits.now → StandsForBack o opening (layer_of b)) }
     {
         let region = Region::new(alloc, limits)?;
         let descs = Descs::new(alloc, limits)?;
-        Ok(Back { region, descs })
+        Ok(Back {
+            limits: *limits,
+            region,
+            descs,
+        })
     }
 
     /// The segments and the committed pages.
@@ -94,7 +109,11 @@ impl Back {
         ensures descs { result.1 ≡ self.words }
         ensures sound { IsSound self }
     {
-        let Back { region, descs } = self;
+        let Back {
+            limits: _,
+            region,
+            descs,
+        } = self;
         (region, descs)
     }
 
@@ -103,7 +122,7 @@ impl Back {
     pub fn run_at(&self, page: u32) -> Option<Run>
         ensures { result ≡ (if is_usable (area_of self.now) page then find (has_page page) (runs_of self.now.words) else None) }
     {
-        let behind_header = page % SEGMENT_PAGES >= 2;
+        let behind_header = page % SEGMENT_PAGES >= HEADER_PAGES;
         if behind_header && page / SEGMENT_PAGES < self.region.reserved() {
             Some(self.descs.run_at(page))
         } else {
@@ -113,7 +132,7 @@ impl Back {
 
     /// Whether a request for `n` pages has a place, one in a new segment included.
     pub fn fits(&self, n: u32) -> bool
-        ensures { result ≡ is_some (back_place (area_of self.now) self.now.region.segments n) }
+        ensures { result ≡ is_some (back_place (area_of self.now) self.now.limits.segments n) }
     {
         best_fit(&self.region, &self.descs, n).is_some() || can_open(&self.region, n)
     }
@@ -123,11 +142,12 @@ impl Back {
     pub fn take(&mut self, n: u32, mark: Mark) -> Option<u32>
         requires some { 0 < n }
         requires mark { IsSpanMark mark }
-        ensures place { result ≡ back_place (area_of self.old) self.old.region.segments n }
+        ensures place { result ≡ back_place (area_of self.old) self.old.limits.segments n }
         ensures none { IfNone result (self.new ≡ self.old) }
         ensures area { IfSome result (λ first. area_of self.new ≡ with_span (with_segment (area_of self.old) first) (marked_span first n mark)) }
-        ensures marks { IfSome result (λ first. taken_in self.new.words ≡ insert_run (marked_run first n mark) (taken_in self.old.words)) }
-        ensures segments { self.new.region.segments ≡ self.old.region.segments }
+        ensures spans { IfSome result (λ first. spans_of self.new ≡ insert_run (marked_run first n mark) (spans_of self.old)) }
+        ensures limits { self.new.limits ≡ self.old.limits }
+        ensures stands { IfSome result (λ first. Becomes self.old self.new (λ b. part_with b (marked_run first n mark))) }
     {
         let run = find_room(&mut self.region, &mut self.descs, n)?;
         place(&mut self.region, &mut self.descs, run, n, mark);
@@ -139,8 +159,9 @@ impl Back {
         requires { IsSome (span_at (area_of self.old) first) }
         ensures pages { IfSome (span_at (area_of self.old) first) (λ x. result ≡ x.pages) }
         ensures area { area_of self.new ≡ without_span (area_of self.old) first }
-        ensures marks { taken_in self.new.words ≡ remove_found (starts_at first) (taken_in self.old.words) }
-        ensures region { self.new.region ≡ self.old.region }
+        ensures spans { spans_of self.new ≡ remove_found (starts_at first) (spans_of self.old) }
+        ensures limits { self.new.limits ≡ self.old.limits }
+        ensures stands { Becomes self.old self.new (λ b. part_without b first) }
     {
         let run = self.descs.run_at(first);
         free_run(&self.region, &mut self.descs, run);
@@ -157,8 +178,9 @@ impl Back {
         ensures fits { result ≡ nat_le n (reach_of (area_of self.old) (span_at (area_of self.old) first)) }
         ensures stays { OnFalse result (self.new ≡ self.old) }
         ensures area { OnTrue result (area_of self.new ≡ with_size (area_of self.old) first n) }
-        ensures marks { OnTrue result (taken_in self.new.words ≡ change_found (starts_at first) (with_mark n (back_mark unused)) (taken_in self.old.words)) }
-        ensures segments { self.new.region.segments ≡ self.old.region.segments }
+        ensures spans { OnTrue result (spans_of self.new ≡ change_found (starts_at first) (with_mark n (back_mark unused)) (spans_of self.old)) }
+        ensures limits { self.new.limits ≡ self.old.limits }
+        ensures stands { OnTrue result (Becomes self.old self.new (λ b. part_resized b first n unused)) }
     {
         let run = self.descs.run_at(first);
         let end = end_with_free(&self.descs, run.first + run.pages);
@@ -171,10 +193,11 @@ impl Back {
 
     /// Clears the marks of all free pages, and answers how many of them were committed.
     pub fn decommit_free(&mut self) -> u32
-        ensures cleared { result ≡ count_by (is_idle (area_of self.old)) (numbers 0 (256 * self.old.region.reserved)) }
+        ensures cleared { result ≡ count_by (is_idle (area_of self.old)) (numbers 0 (256 * (area_of self.old).reserved)) }
         ensures area { area_of self.new ≡ decommitted (area_of self.old) }
-        ensures marks { self.new.words ≡ self.old.words }
-        ensures segments { self.new.region.segments ≡ self.old.region.segments }
+        ensures spans { spans_of self.new ≡ spans_of self.old }
+        ensures limits { self.new.limits ≡ self.old.limits }
+        ensures stands { Becomes self.old self.new (λ b. with_area b (decommitted b.area)) }
     {
         sweep(&mut self.region, &self.descs)
     }
@@ -182,10 +205,10 @@ impl Back {
 
 /// Decommits each free run.
 fn sweep(region: &mut Region, descs: &Descs) -> u32
-    requires { IsSound (record { region = region.old; words = descs.now }) }
-    ensures cleared { result ≡ count_by (is_idle (area_of (record { region = region.old; words = descs.now }))) (numbers 0 (256 * region.old.reserved)) }
-    ensures area { area_of (record { region = region.new; words = descs.now }) ≡ decommitted (area_of (record { region = region.old; words = descs.now })) }
-    ensures sound { IsSound (record { region = region.new; words = descs.now }) }
+    requires { AreSound (record { region = region.old; words = descs.now }) }
+    ensures cleared { result ≡ count_by (is_idle (pages_area (record { region = region.old; words = descs.now }))) (numbers 0 (256 * region.old.reserved)) }
+    ensures area { pages_area (record { region = region.new; words = descs.now }) ≡ decommitted (pages_area (record { region = region.old; words = descs.now })) }
+    ensures sound { AreSound (record { region = region.new; words = descs.now }) }
     ensures segments { region.new.segments ≡ region.old.segments }
 {
     let end = SEGMENT_PAGES * region.reserved();
@@ -203,42 +226,36 @@ fn sweep(region: &mut Region, descs: &Descs) -> u32
 
 /// Makes a block n pages long; what is left up to a later page becomes free.
 fn resize_run(region: &mut Region, descs: &mut Descs, run: Run, end: u32, n: u32, unused: u16)
-    requires sound { IsSound (record { region = region.old; words = descs.old }) }
+    requires sound { AreSound (record { region = region.old; words = descs.old }) }
     requires span { IsSpan descs.old run }
     requires kind { run.mark.kind ≡ kinds.Back }
     requires end { end ≡ end_of descs.old (run.first + run.pages) }
     requires some { 0 < n }
     requires within { run.first + n ≤ end }
-    ensures area { area_of (record { region = region.new; words = descs.new }) ≡ with_size (area_of (record { region = region.old; words = descs.old })) run.first n }
+    ensures area { pages_area (record { region = region.new; words = descs.new }) ≡ with_size (pages_area (record { region = region.old; words = descs.old })) run.first n }
     ensures marks { taken_in descs.new ≡ change_found (starts_at run.first) (with_mark n (back_mark unused)) (taken_in descs.old) }
-    ensures sound { IsSound (record { region = region.new; words = descs.new }) }
+    ensures sound { AreSound (record { region = region.new; words = descs.new }) }
     ensures segments { region.new.segments ≡ region.old.segments }
 {
-    let mark = Mark {
-        kind: Kind::Back,
-        bucket: 0,
-        slot: 0,
-        unused,
-    };
-    descs.mark(run.first, n, mark);
+    descs.mark(run.first, n, Mark::back(unused));
     let rest = run.first + n;
     if rest < end {
-        descs.mark(rest, end - rest, FREE);
+        descs.mark(rest, end - rest, Mark::FREE);
     }
     region.commit(run.first, n);
 }
 
 /// Makes a span free, joined with the free runs beside it.
 fn free_run(region: &Region, descs: &mut Descs, run: Run)
-    requires sound { IsSound (record { region = region.now; words = descs.old }) }
+    requires sound { AreSound (record { region = region.now; words = descs.old }) }
     requires span { IsSpan descs.old run }
-    ensures area { area_of (record { region = region.now; words = descs.new }) ≡ without_span (area_of (record { region = region.now; words = descs.old })) run.first }
+    ensures area { pages_area (record { region = region.now; words = descs.new }) ≡ without_span (pages_area (record { region = region.now; words = descs.old })) run.first }
     ensures marks { taken_in descs.new ≡ remove_found (starts_at run.first) (taken_in descs.old) }
-    ensures sound { IsSound (record { region = region.now; words = descs.new }) }
+    ensures sound { AreSound (record { region = region.now; words = descs.new }) }
 {
     let start = start_with_free(descs, run.first);
     let end = end_with_free(descs, run.first + run.pages);
-    descs.mark(start, end - start, FREE);
+    descs.mark(start, end - start, Mark::FREE);
 }
 
 /// Where the free run begins that ends before a page, or this page.
@@ -274,19 +291,19 @@ fn end_with_free(descs: &Descs, page: u32) -> u32
 }
 
 fn can_open(region: &Region, n: u32) -> bool
-    ensures { result ≡ is_some (next_segment (area_of (record { region = region.now; words = [] })) region.now.segments n) }
+    ensures { result ≡ is_some (next_segment (pages_area (record { region = region.now; words = [] })) region.now.segments n) }
 {
-    n <= SEGMENT_PAGES - 2 && region.reserved() < region.segments()
+    n <= SEGMENT_PAGES - HEADER_PAGES && region.reserved() < region.segments()
 }
 
 /// A free run for n pages, in another segment where no run fits.
 fn find_room(region: &mut Region, descs: &mut Descs, n: u32) -> Option<Run>
-    requires { IsSound (record { region = region.old; words = descs.old }) }
-    ensures place { option_map (λ r. r.first) result ≡ back_place (area_of (record { region = region.old; words = descs.old })) region.old.segments n }
+    requires { AreSound (record { region = region.old; words = descs.old }) }
+    ensures place { option_map (λ r. r.first) result ≡ back_place (pages_area (record { region = region.old; words = descs.old })) region.old.segments n }
     ensures none { IfNone result ((region.new ≡ region.old) × (descs.new ≡ descs.old)) }
-    ensures area { IfSome result (λ r. area_of (record { region = region.new; words = descs.new }) ≡ with_segment (area_of (record { region = region.old; words = descs.old })) r.first) }
+    ensures area { IfSome result (λ r. pages_area (record { region = region.new; words = descs.new }) ≡ with_segment (pages_area (record { region = region.old; words = descs.old })) r.first) }
     ensures marks { taken_in descs.new ≡ taken_in descs.old }
-    ensures sound { IsSound (record { region = region.new; words = descs.new }) }
+    ensures sound { AreSound (record { region = region.new; words = descs.new }) }
     ensures free { IfSome result (λ r. IsFreeRun descs.new r.first r.pages × (n ≤ r.pages)) }
     ensures segments { region.new.segments ≡ region.old.segments }
 {
@@ -298,50 +315,50 @@ fn find_room(region: &mut Region, descs: &mut Descs, n: u32) -> Option<Run>
 
 /// The free run of the next segment, where it has n pages.
 fn open_next(region: &mut Region, descs: &mut Descs, n: u32) -> Option<Run>
-    requires { IsSound (record { region = region.old; words = descs.old }) }
-    ensures place { option_map (λ r. r.first) result ≡ next_segment (area_of (record { region = region.old; words = descs.old })) region.old.segments n }
+    requires { AreSound (record { region = region.old; words = descs.old }) }
+    ensures place { option_map (λ r. r.first) result ≡ next_segment (pages_area (record { region = region.old; words = descs.old })) region.old.segments n }
     ensures none { IfNone result ((region.new ≡ region.old) × (descs.new ≡ descs.old)) }
-    ensures area { IfSome result (λ r. area_of (record { region = region.new; words = descs.new }) ≡ with_segment (area_of (record { region = region.old; words = descs.old })) r.first) }
+    ensures area { IfSome result (λ r. pages_area (record { region = region.new; words = descs.new }) ≡ with_segment (pages_area (record { region = region.old; words = descs.old })) r.first) }
     ensures marks { taken_in descs.new ≡ taken_in descs.old }
-    ensures sound { IsSound (record { region = region.new; words = descs.new }) }
+    ensures sound { AreSound (record { region = region.new; words = descs.new }) }
     ensures free { IfSome result (λ r. IsFreeRun descs.new r.first r.pages × (n ≤ r.pages)) }
     ensures segments { region.new.segments ≡ region.old.segments }
 {
-    if n > SEGMENT_PAGES - 2 {
+    if n > SEGMENT_PAGES - HEADER_PAGES {
         return None;
     }
     let segment = region.reserve_next()?;
     descs.open_segment(segment);
     Some(Run {
-        first: SEGMENT_PAGES * segment + 2,
-        pages: SEGMENT_PAGES - 2,
-        mark: FREE,
+        first: SEGMENT_PAGES * segment + HEADER_PAGES,
+        pages: SEGMENT_PAGES - HEADER_PAGES,
+        mark: Mark::FREE,
     })
 }
 
 /// Makes the front of a free run a span of n pages, and commits them.
 fn place(region: &mut Region, descs: &mut Descs, run: Run, n: u32, mark: Mark)
-    requires sound { IsSound (record { region = region.old; words = descs.old }) }
+    requires sound { AreSound (record { region = region.old; words = descs.old }) }
     requires free { IsFreeRun descs.old run.first run.pages }
     requires some { 0 < n }
     requires within { n ≤ run.pages }
     requires mark { IsSpanMark mark }
-    ensures area { area_of (record { region = region.new; words = descs.new }) ≡ with_span (area_of (record { region = region.old; words = descs.old })) (marked_span run.first n mark) }
+    ensures area { pages_area (record { region = region.new; words = descs.new }) ≡ with_span (pages_area (record { region = region.old; words = descs.old })) (marked_span run.first n mark) }
     ensures marks { taken_in descs.new ≡ insert_run (marked_run run.first n mark) (taken_in descs.old) }
-    ensures sound { IsSound (record { region = region.new; words = descs.new }) }
+    ensures sound { AreSound (record { region = region.new; words = descs.new }) }
     ensures segments { region.new.segments ≡ region.old.segments }
 {
     descs.mark(run.first, n, mark);
     if n < run.pages {
-        descs.mark(run.first + n, run.pages - n, FREE);
+        descs.mark(run.first + n, run.pages - n, Mark::FREE);
     }
     region.commit(run.first, n);
 }
 
 /// The free run that a request for n pages takes the front of.
 fn best_fit(region: &Region, descs: &Descs, n: u32) -> Option<Run>
-    requires { IsSound (record { region = region.now; words = descs.now }) }
-    ensures { let a = area_of (record { region = region.now; words = descs.now }) in option_map plain result ≡ least (is_better a) (fitting n (free_runs a)) }
+    requires { AreSound (record { region = region.now; words = descs.now }) }
+    ensures { let a = pages_area (record { region = region.now; words = descs.now }) in option_map plain result ≡ least (is_better a) (fitting n (free_runs a)) }
 {
     let end = SEGMENT_PAGES * region.reserved();
     let mut best = None;
@@ -357,7 +374,7 @@ fn best_fit(region: &Region, descs: &Descs, n: u32) -> Option<Run>
 fn better_of(region: &Region, best: Option<Run>, run: Run, n: u32) -> Option<Run>
     requires run { run.first + run.pages ≤ 256 * region.now.segments }
     requires best { IfSome best (λ b. b.first + b.pages ≤ 256 * region.now.segments) }
-    ensures best { option_map plain result ≡ with_run (is_better (area_of (record { region = region.now; words = [] }))) n (option_map plain best) run }
+    ensures best { option_map plain result ≡ with_run (is_better (pages_area (record { region = region.now; words = [] }))) n (option_map plain best) run }
     ensures inside { IfSome result (λ b. b.first + b.pages ≤ 256 * region.now.segments) }
 {
     if !is_free(run.mark.kind) || run.pages < n {
@@ -372,7 +389,7 @@ fn better_of(region: &Region, best: Option<Run>, run: Run, n: u32) -> Option<Run
 fn better(region: &Region, run: Run, other: Run) -> Run
     requires run { run.first + run.pages ≤ 256 * region.now.segments }
     requires other { other.first + other.pages ≤ 256 * region.now.segments }
-    ensures { result ≡ (if is_better (area_of (record { region = region.now; words = [] })) (plain run) (plain other) then run else other) }
+    ensures { result ≡ (if is_better (pages_area (record { region = region.now; words = [] })) (plain run) (plain other) then run else other) }
 {
     if is_better(region, run, other) {
         run
@@ -385,7 +402,7 @@ fn better(region: &Region, run: Run, other: Run) -> Run
 fn is_better(region: &Region, run: Run, other: Run) -> bool
     requires run { run.first + run.pages ≤ 256 * region.now.segments }
     requires other { other.first + other.pages ≤ 256 * region.now.segments }
-    ensures { result ≡ is_better (area_of (record { region = region.now; words = [] })) (plain run) (plain other) }
+    ensures { result ≡ is_better (pages_area (record { region = region.now; words = [] })) (plain run) (plain other) }
 {
     if run.pages != other.pages {
         return run.pages < other.pages;
@@ -456,7 +473,7 @@ mod tests {
         let free = Run {
             first: 129,
             pages: 127,
-            mark: FREE,
+            mark: Mark::FREE,
         };
         assert!(rt; back.run_at(129) == Some(free));
     }

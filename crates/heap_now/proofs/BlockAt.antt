@@ -10,7 +10,7 @@ use Rattle.heap_model.specs.declared.Run.{Run}
 use Rattle.heap_model.specs.State.{is_kind}
 use Rattle.page_ranges.specs.Ranges.{AreRuns, has_page}
 use Rattle.page_ranges.specs.Spans.{is_of_span, span_of, taken_runs, is_usable_in, IsUsed}
-use Rattle.heap_now.specs.Blocks.{is_block_at}
+use Rattle.backend_fit.specs.Kept.{is_block_at}
 
 -- a run of the back end is a span
 pub back_is_span : (k : Kind) → is_of_span k ≡ false → is_kind k kinds.Back ≡ false

@@ -37,8 +37,8 @@ use Rattle.heap_now.specs.VsBlocks.{AreOneHeap}
 use Rattle.heap_now.specs.Layers.{AreLayers}
 use Rattle.heap_now.specs.Standing.{LoneHeap, setting_of, IsReached, front_of, Stands}
 use Rattle.heap_now.proofs.ByPlace.{gaps_sorted, count_sorted, IsVsPlace, one_address}
-use Rattle.heap_now.proofs.NextSegment.{AreBelow}
-use Rattle.heap_now.proofs.Goes.{spans_below}
+use Rattle.backend_fit.proofs.NextSegment.{AreBelow}
+use Rattle.backend_fit.proofs.Goes.{spans_below}
 
 ---- Legal histories, acts of caller 0 behind them
 

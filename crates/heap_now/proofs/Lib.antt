@@ -1,14 +1,10 @@
-pub mod Tail
-pub mod NextSegment
 pub mod ByPlace
 pub mod OfKind
 pub mod BlockAt
-pub mod Rising
 pub mod Known
 pub mod StandFront
 pub mod StandAfter
 pub mod StandFree
-pub mod Goes
 pub mod StandAlloc
 pub mod NewSpan
 pub mod StandVs

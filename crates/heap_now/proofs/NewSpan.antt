@@ -14,8 +14,8 @@ use Rattle.backend_fit.specs.Kept.{Kept}
 use Rattle.vs_layer.specs.Kept.{VsKept, vs_span, places_of, place_for, gaps_in}
 use Rattle.vs_layer.specs.Effects.{LieApart}
 use Rattle.heap_now.specs.VsBlocks.{AreOneHeap, HasSpanFor}
-use Rattle.heap_now.proofs.Tail.{tail, whole_run}
-use Rattle.heap_now.proofs.Goes.{fitting_append, least_none}
+use Rattle.backend_fit.proofs.Tail.{tail, whole_run}
+use Rattle.backend_fit.proofs.Goes.{fitting_append, least_none}
 
 ---- The gap
 

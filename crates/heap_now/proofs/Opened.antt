@@ -17,14 +17,17 @@ use Rattle.page_ranges.specs.Words.{runs_of}
 use Rattle.page_ranges.specs.Ranges.{AreRuns}
 use Rattle.page_ranges.specs.Spans.{is_of_span, is_usable_in, IsUsed, AreRising}
 use Rattle.page_ranges.proofs.Blocks.{taken_rise}
-use Rattle.backend_fit.specs.Kept.{Kept, area_of, taken_in, insert_run}
+use Rattle.backend_fit.specs.Kept.{Kept, area_of}
+use Rattle.backend_fit.specs.Pages.{taken_in}
+use Rattle.backend_fit.specs.Effects.{insert_run}
 use Rattle.backend_fit.specs.Sound.{IsSound}
 use Rattle.vs_split.specs.Chunks.{Chunks}
 use Rattle.vs_split.specs.Tiles.{AreSpanPages}
 use Rattle.vs_layer.specs.Kept.{VsKept, place_of, block_at}
 use Rattle.vs_layer.specs.Effects.{LieApart, HasDropped}
 use Rattle.heap_now.specs.VsBlocks.{AreOneHeap, vs_run}
-use Rattle.heap_now.proofs.OfKind.{run_apart, spans_apart}
+use Rattle.backend_fit.proofs.OfKind.{run_apart}
+use Rattle.heap_now.proofs.OfKind.{spans_apart}
 use Rattle.heap_now.proofs.StandVsFree.{found_chunk}
 use Rattle.lfh_claims.proofs.Made.{made_run}
 

@@ -13,14 +13,16 @@ use Rattle.heap_model.specs.declared.Run.{Run}
 use Rattle.heap_model.specs.Limits.{AreValid}
 use Rattle.heap_model.specs.History.{first_configuration}
 use Rattle.heap_model.specs.Alone.{alone}
-use Rattle.backend_fit.specs.Kept.{Kept, area_of, taken_in}
+use Rattle.backend_fit.specs.Kept.{Kept, area_of}
+use Rattle.backend_fit.specs.Pages.{taken_in}
 use Rattle.vs_headers.specs.declared.Head.{Head}
 use Rattle.vs_headers.specs.Headers.{key_of}
 use Rattle.vs_layer.specs.Kept.{VsKept, places_from}
 use Rattle.vs_layer.specs.Effects.{nothing_kept}
 use Rattle.lfh_claims.specs.Kept.{LfhKept, StandsFor, no_part}
-use Rattle.heap_now.specs.Blocks.{is_block_run}
-use Rattle.heap_now.specs.Standing.{LoneHeap, place_of, IsBlockRun, Stands, HasHistory}
+use Rattle.backend_fit.specs.Kept.{is_block_run}
+use Rattle.heap_now.specs.Standing.{LoneHeap, Stands, HasHistory}
+use Rattle.backend_fit.specs.Kept.{place_of, IsBlockRun}
 
 -- no chunk, no block
 abbrev no_head : Option Head

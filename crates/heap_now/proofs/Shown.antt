@@ -22,7 +22,7 @@ use Rattle.page_ranges.specs.Words.{runs_of}
 use Rattle.page_ranges.specs.Ranges.{AreRuns, IsMark}
 use Rattle.page_ranges.specs.Spans.{is_of_span, span_of, taken_runs, AreRising}
 use Rattle.page_ranges.proofs.Blocks.{taken_rise}
-use Rattle.backend_fit.specs.Kept.{taken_in}
+use Rattle.backend_fit.specs.Pages.{taken_in}
 use Rattle.backend_fit.specs.Sound.{IsSound}
 use Rattle.backend_fit.proofs.Segment.{frees_of}
 use Rattle.vs_headers.specs.declared.Head.{Head}
@@ -33,11 +33,12 @@ use Rattle.vs_layer.specs.Kept.{places_of}
 use Rattle.vs_layer.specs.Effects.{ShowsChunks}
 use Rattle.lfh_claims.specs.Kept.{spans_for}
 use Rattle.layout_decode.specs.Shows.{Shows, ShowsFront, IsHintOf, run_of_span, unused_in}
-use Rattle.heap_now.specs.Blocks.{is_block_run, block_runs, is_block_at}
-use Rattle.heap_now.specs.Standing.{LoneHeap, setting_of, IsBlockRun, front_of, Stands}
+use Rattle.backend_fit.specs.Kept.{is_block_run, block_runs, is_block_at}
+use Rattle.heap_now.specs.Standing.{LoneHeap, setting_of, front_of, Stands}
+use Rattle.backend_fit.specs.Kept.{IsBlockRun}
 use Rattle.heap_now.proofs.ByPlace.{gaps_sorted, one_start, one_end}
-use Rattle.heap_now.proofs.OfKind.{filter_rising}
-use Rattle.heap_now.proofs.Rising.{is_at}
+use Rattle.backend_fit.proofs.OfKind.{filter_rising}
+use Rattle.backend_fit.proofs.Rising.{is_at}
 use Rattle.heap_now.proofs.Known.{vs_known, vs_by_start}
 use Rattle.heap_now.proofs.StandFree.{place_found}
 use Rattle.heap_now.proofs.StandSearch.{subsegments_are}

@@ -20,8 +20,9 @@ use Rattle.claim_rule.specs.Shown.{lfh_spans}
 use Rattle.backend_fit.specs.Kept.{Kept, area_of}
 use Rattle.vs_layer.specs.Kept.{VsKept, places_of, served_of, active_of}
 use Rattle.vs_layer.specs.Effects.{IsOfOneHeap}
-use Rattle.heap_now.specs.Blocks.{block_runs}
-use Rattle.heap_now.specs.Standing.{LoneHeap, setting_of, place_of, IsBlockRun, front_of, Stands, Serves}
+use Rattle.backend_fit.specs.Kept.{block_runs}
+use Rattle.heap_now.specs.Standing.{LoneHeap, setting_of, front_of, Stands, Serves}
+use Rattle.backend_fit.specs.Kept.{place_of, IsBlockRun}
 use Rattle.heap_now.proofs.Known.{reached_by, keeps}
 use Rattle.heap_now.proofs.StandFront.{front_is, hints_stay}
 

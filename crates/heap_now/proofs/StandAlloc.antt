@@ -18,13 +18,17 @@ use Rattle.serial_laws.specs.BackCalls.{plain, block_span, block_place, one_more
 use Rattle.serial_laws.proofs.Allocate.{allocation, reserving, refusal}
 use Rattle.claim_rule.specs.Shown.{lfh_spans}
 use Rattle.page_ranges.proofs.Blocks.{taken_rise}
-use Rattle.backend_fit.specs.Kept.{Kept, area_of, taken_in, with_segment, insert_run}
+use Rattle.backend_fit.specs.Kept.{Kept, area_of}
+use Rattle.backend_fit.specs.Pages.{taken_in}
+use Rattle.backend_fit.specs.Effects.{with_segment, insert_run}
 use Rattle.backend_fit.specs.Sound.{IsSound}
-use Rattle.heap_now.specs.Blocks.{is_block_run, block_runs, block_run, IsPlaced, HasNoPlace, Allocates}
-use Rattle.heap_now.specs.Standing.{LoneHeap, setting_of, place_of, IsBlockRun, Stands, Serves}
-use Rattle.heap_now.proofs.OfKind.{run_of}
-use Rattle.heap_now.proofs.Rising.{place_inserted, blocks_inserted}
-use Rattle.heap_now.proofs.Goes.{Goes, Into, Next, goes, same_segment, next_one, goes_next}
+use Rattle.backend_fit.specs.Kept.{is_block_run, block_runs}
+use Rattle.heap_now.specs.Blocks.{block_run, IsPlaced, HasNoPlace, Allocates}
+use Rattle.heap_now.specs.Standing.{LoneHeap, setting_of, Stands, Serves}
+use Rattle.backend_fit.specs.Kept.{place_of, IsBlockRun}
+use Rattle.backend_fit.proofs.OfKind.{run_of}
+use Rattle.backend_fit.proofs.Rising.{place_inserted, blocks_inserted}
+use Rattle.backend_fit.proofs.Goes.{Goes, Into, Next, goes, same_segment, next_one, goes_next}
 use Rattle.heap_now.proofs.Known.{same_range, all_below}
 use Rattle.heap_now.proofs.StandAfter.{hints_of, back_serves, still_serves}
 

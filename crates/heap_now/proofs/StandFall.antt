@@ -24,20 +24,22 @@ use Rattle.search_laws.specs.Calls.{next_key, NoneIsFree}
 use Rattle.search_laws.specs.Falls.{HasNoRange, IsInVsSpan, vs_with}
 use Rattle.search_laws.proofs.Fuller.{is_reserved}
 use Rattle.claim_rule.specs.Shown.{lfh_spans}
-use Rattle.backend_fit.specs.Kept.{Kept, area_of, taken_in, with_segment}
+use Rattle.backend_fit.specs.Kept.{Kept, area_of}
+use Rattle.backend_fit.specs.Pages.{taken_in}
+use Rattle.backend_fit.specs.Effects.{with_segment}
 use Rattle.backend_fit.specs.Sound.{IsSound}
 use Rattle.vs_layer.specs.Kept.{VsKept, places_of, served_of, active_of, place_for, block_in}
 use Rattle.vs_layer.specs.Effects.{IsOfOneHeap, HasPlaced}
 use Rattle.lfh_claims.specs.Kept.{LfhKept, StandsFor}
 use Rattle.lfh_claims.specs.Takes.{FindsNone}
 use Rattle.lfh_claims.proofs.Subsegments.{filter_keeps}
-use Rattle.heap_now.specs.Blocks.{is_block_run, block_runs}
+use Rattle.backend_fit.specs.Kept.{is_block_run, block_runs}
 use Rattle.heap_now.specs.VsBlocks.{vs_run, HasSpanFor, AllocatesVs}
 use Rattle.heap_now.specs.Layers.{Layers, HasFallen}
 use Rattle.heap_now.specs.Standing.{LoneHeap, with_layers, setting_of, Stands, Serves}
 use Rattle.heap_now.proofs.ByPlace.{gaps_sorted}
-use Rattle.heap_now.proofs.OfKind.{run_other}
-use Rattle.heap_now.proofs.Goes.{same_segment}
+use Rattle.backend_fit.proofs.OfKind.{run_other}
+use Rattle.backend_fit.proofs.Goes.{same_segment}
 use Rattle.heap_now.proofs.Known.{keeps, gaps_same, same_range}
 use Rattle.heap_now.proofs.StandFront.{Hints}
 use Rattle.heap_now.proofs.StandSmall.{front_with, HasLeft, small_serves, opened, IsOpened, SearchLaws}

@@ -21,14 +21,18 @@ use Rattle.serial_laws.proofs.Sorted.{OnlyOne, any_sorted, found_sorted, removed
 use Rattle.claim_rule.specs.Shown.{lfh_spans}
 use Rattle.page_ranges.specs.Spans.{span_of, AreRising}
 use Rattle.page_ranges.proofs.Blocks.{taken_rise}
-use Rattle.backend_fit.specs.Kept.{Kept, area_of, taken_in, starts_at}
+use Rattle.backend_fit.specs.Kept.{Kept, area_of}
+use Rattle.backend_fit.specs.Pages.{taken_in}
+use Rattle.backend_fit.specs.Effects.{starts_at}
 use Rattle.backend_fit.specs.Sound.{IsSound}
 use Rattle.backend_fit.proofs.Tiled.{spans_remove}
 use Rattle.vs_layer.specs.Kept.{block_at}
-use Rattle.heap_now.specs.Blocks.{is_block_run, block_runs, is_block_at, block_size, IsGivenBack, Frees, Sizes}
-use Rattle.heap_now.specs.Standing.{LoneHeap, setting_of, place_of, IsBlockRun, Stands, Serves}
-use Rattle.heap_now.proofs.OfKind.{removed_of, removed_other, found_of, filter_rising}
-use Rattle.heap_now.proofs.Rising.{found_addr, found_block, only_one, found_place, any_place, removed_place, no_other, all_used, blocks_removed, start_found, span_found}
+use Rattle.backend_fit.specs.Kept.{is_block_run, block_runs, is_block_at}
+use Rattle.heap_now.specs.Blocks.{block_size, IsGivenBack, Frees, Sizes}
+use Rattle.heap_now.specs.Standing.{LoneHeap, setting_of, Stands, Serves}
+use Rattle.backend_fit.specs.Kept.{place_of, IsBlockRun}
+use Rattle.backend_fit.proofs.OfKind.{removed_of, removed_other, found_of, filter_rising}
+use Rattle.backend_fit.proofs.Rising.{found_addr, found_block, only_one, found_place, any_place, removed_place, no_other, all_used, blocks_removed, start_found, span_found}
 use Rattle.heap_now.proofs.Known.{vs_found}
 use Rattle.heap_now.proofs.StandAfter.{hints_of, hints_left, back_serves, still_serves}
 

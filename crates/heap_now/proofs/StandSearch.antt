@@ -29,16 +29,18 @@ use Rattle.search_laws.proofs.Whole.{of_bucket}
 use Rattle.search_laws.proofs.Filtered.{filtered_in_order, all_kept}
 use Rattle.claim_rule.specs.Shown.{lfh_spans}
 use Rattle.claim_rule.proofs.Quiet.{spans_of_same}
-use Rattle.backend_fit.specs.Kept.{Kept, area_of, taken_in, with_segment}
+use Rattle.backend_fit.specs.Kept.{Kept, area_of}
+use Rattle.backend_fit.specs.Pages.{taken_in}
+use Rattle.backend_fit.specs.Effects.{with_segment}
 use Rattle.backend_fit.specs.Sound.{IsSound}
 use Rattle.vs_layer.specs.Kept.{VsKept, places_of, served_of, active_of}
 use Rattle.lfh_claims.specs.Kept.{LfhKept, LfhPart, StandsFor, IsSubsegment, HaveOwnStarts, spans_for, hint_of}
 use Rattle.lfh_claims.specs.Takes.{StandsIn, hinted_span, at_hint, in_pass, lfh_run, TakesAtHint, TakesInPass, TakesNewSpan, Takes, AtHint, InPass, NewSpan}
-use Rattle.heap_now.specs.Blocks.{is_block_run, block_runs}
+use Rattle.backend_fit.specs.Kept.{is_block_run, block_runs}
 use Rattle.heap_now.specs.Layers.{Layers, HasTaken}
 use Rattle.heap_now.specs.Standing.{LoneHeap, with_layers, setting_of, Stands, Serves}
-use Rattle.heap_now.proofs.OfKind.{run_other}
-use Rattle.heap_now.proofs.Goes.{Goes, Into, Next, goes, same_segment, next_one, goes_next}
+use Rattle.backend_fit.proofs.OfKind.{run_other}
+use Rattle.backend_fit.proofs.Goes.{Goes, Into, Next, goes, same_segment, next_one, goes_next}
 use Rattle.heap_now.proofs.Known.{same_range, all_below}
 use Rattle.heap_now.proofs.StandFront.{Hints, same_part}
 use Rattle.heap_now.proofs.StandSmall.{front_with, HasLeft, small_serves, opened, IsOpened, SearchLaws}

@@ -29,12 +29,13 @@ use Rattle.backend_fit.specs.Kept.{area_of}
 use Rattle.vs_layer.specs.Kept.{places_of, served_of, active_of}
 use Rattle.vs_layer.specs.Effects.{IsOfOneHeap}
 use Rattle.lfh_claims.specs.Kept.{LfhKept, LfhPart, StandsFor}
-use Rattle.heap_now.specs.Blocks.{block_runs}
+use Rattle.backend_fit.specs.Kept.{block_runs}
 use Rattle.heap_now.specs.Layers.{Layers}
-use Rattle.heap_now.specs.Standing.{LoneHeap, with_layers, setting_of, place_of, IsBlockRun, Stands, Serves}
+use Rattle.heap_now.specs.Standing.{LoneHeap, with_layers, setting_of, Stands, Serves}
+use Rattle.backend_fit.specs.Kept.{place_of, IsBlockRun}
 use Rattle.heap_now.proofs.Known.{reached_by}
 use Rattle.heap_now.proofs.StandFront.{Hints, front_is}
-use Rattle.heap_now.proofs.Goes.{GoesNext}
+use Rattle.backend_fit.proofs.Goes.{GoesNext}
 
 -- a front end by what a call has left
 abbrev pub front_with : Area → VsPart → List Place → Hints → LfhPart

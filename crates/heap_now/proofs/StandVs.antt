@@ -20,16 +20,18 @@ use Rattle.serial_laws.specs.VsCalls as laws
 use Rattle.serial_laws.specs.VsCalls.{vs_block, vs_span_for, vs_without, live_vs, area_closed, EndsVs}
 use Rattle.claim_rule.specs.Shown.{lfh_spans}
 use Rattle.serial_laws.proofs.VsAllocate.{gap_allocation, span_allocation, reserving_span, vs_refusal}
-use Rattle.backend_fit.specs.Kept.{Kept, area_of, taken_in, with_segment}
+use Rattle.backend_fit.specs.Kept.{Kept, area_of}
+use Rattle.backend_fit.specs.Pages.{taken_in}
+use Rattle.backend_fit.specs.Effects.{with_segment}
 use Rattle.backend_fit.specs.Sound.{IsSound}
 use Rattle.vs_layer.specs.Kept.{VsKept, places_of, served_of, place_for, block_in}
 use Rattle.vs_layer.specs.Effects.{HasPlaced}
-use Rattle.heap_now.specs.Blocks.{is_block_run}
+use Rattle.backend_fit.specs.Kept.{is_block_run}
 use Rattle.heap_now.specs.VsBlocks.{vs_run, HasSpanFor, AllocatesVs}
 use Rattle.heap_now.specs.Standing.{LoneHeap, setting_of, Stands, Serves}
 use Rattle.heap_now.proofs.ByPlace.{gaps_sorted}
-use Rattle.heap_now.proofs.OfKind.{run_other}
-use Rattle.heap_now.proofs.Goes.{Goes, Into, Next, goes, same_segment, next_one, goes_next}
+use Rattle.backend_fit.proofs.OfKind.{run_other}
+use Rattle.backend_fit.proofs.Goes.{Goes, Into, Next, goes, same_segment, next_one, goes_next}
 use Rattle.heap_now.proofs.Known.{IsForVs, keeps, gaps_same, for_vs, same_range, all_below}
 use Rattle.heap_now.proofs.StandAfter.{hints_of, vs_serves, vs_still}
 use Rattle.lfh_claims.proofs.Subsegments.{filter_keeps}

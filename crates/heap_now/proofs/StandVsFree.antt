@@ -24,14 +24,16 @@ use Rattle.serial_laws.proofs.VsFree.{vs_frees, vs_frees_span, vs_sizes}
 use Rattle.serial_laws.proofs.Sorted.{any_sorted}
 use Rattle.claim_rule.specs.Shown.{lfh_spans}
 use Rattle.page_ranges.specs.Spans.{span_of}
-use Rattle.backend_fit.specs.Kept.{Kept, area_of, taken_in, starts_at, without_span}
+use Rattle.backend_fit.specs.Kept.{Kept, area_of}
+use Rattle.backend_fit.specs.Pages.{taken_in}
+use Rattle.backend_fit.specs.Effects.{starts_at, without_span}
 use Rattle.vs_headers.specs.declared.Head.{Head}
 use Rattle.vs_layer.specs.Kept.{VsKept, place_of, place_if, places_from, places_of, served_of, block_at, span_over, places_without}
 use Rattle.vs_layer.specs.Effects.{IsOfOneHeap, HasDropped}
-use Rattle.heap_now.specs.Blocks.{is_block_run, block_runs}
+use Rattle.backend_fit.specs.Kept.{is_block_run, block_runs}
 use Rattle.heap_now.specs.VsBlocks.{IsReturned, IsDropped}
 use Rattle.heap_now.specs.Standing.{LoneHeap, setting_of, Stands, Serves}
-use Rattle.heap_now.proofs.OfKind.{removed_of, removed_other}
+use Rattle.backend_fit.proofs.OfKind.{removed_of, removed_other}
 use Rattle.heap_now.proofs.Known.{keeps, vs_found, vs_has_place, vs_removed, one_heap}
 use Rattle.heap_now.proofs.StandAfter.{hints_of, hints_left, vs_serves, vs_still}
 use Rattle.search_laws.proofs.Filtered.{filtered_in_order}

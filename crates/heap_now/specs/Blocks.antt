@@ -10,7 +10,9 @@ use Rattle.heap_model.specs.State.{is_kind, remove_found}
 use Rattle.heap_model.specs.Backend.{back_place}
 use Rattle.heap_model.specs.Legal.{with_span}
 use Rattle.serial_laws.specs.BackCalls.{block_span}
-use Rattle.backend_fit.specs.Kept.{Kept, area_of, taken_in, with_segment, marked_run, insert_run, starts_at, without_span}
+use Rattle.backend_fit.specs.Kept.{Kept, area_of}
+use Rattle.backend_fit.specs.Pages.{taken_in}
+use Rattle.backend_fit.specs.Effects.{with_segment, marked_run, insert_run, starts_at, without_span}
 use Rattle.heap_model.specs.Marks.{back_mark}
 
 -- a run that is a block of the back end

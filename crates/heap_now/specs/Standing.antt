@@ -25,7 +25,7 @@ use Rattle.backend_fit.specs.Kept.{Kept, area_of}
 use Rattle.vs_headers.specs.Headers.{key_of}
 use Rattle.vs_layer.specs.Kept.{VsKept, places_of, served_of, active_of}
 use Rattle.lfh_claims.specs.Kept.{LfhKept, LfhPart, StandsFor}
-use Rattle.heap_now.specs.Blocks.{block_runs}
+use Rattle.backend_fit.specs.Kept.{block_runs}
 use Rattle.heap_now.specs.Layers.{Layers}
 
 -- What the heap of one caller is seen as: its limits, its seed, what its layers keep, and the generator of its draws.

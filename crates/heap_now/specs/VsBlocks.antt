@@ -13,7 +13,9 @@ use Rattle.heap_model.specs.Backend.{back_place}
 use Rattle.heap_model.specs.Ranges.{vs_spans}
 use Rattle.heap_model.specs.Legal.{with_span}
 use Rattle.heap_soundness.specs.Sound.{AreAt, IsInVs}
-use Rattle.backend_fit.specs.Kept.{Kept, area_of, taken_in, with_segment, marked_run, insert_run, starts_at, without_span}
+use Rattle.backend_fit.specs.Kept.{Kept, area_of}
+use Rattle.backend_fit.specs.Pages.{taken_in}
+use Rattle.backend_fit.specs.Effects.{with_segment, marked_run, insert_run, starts_at, without_span}
 use Rattle.vs_layer.specs.Kept.{VsKept, vs_span, places_of, place_for, block_at}
 use Rattle.vs_layer.specs.Effects.{IsOfOneHeap, LieApart, HasPlaced, HasDropped}
 use Rattle.heap_now.specs.Blocks.{Frees, Sizes}

@@ -4,8 +4,9 @@ ghost use Rattle.std.specs.List.{find};
 ghost use Rattle.heap_model.specs.Geometry.{pages_of};
 ghost use Rattle.heap_model.specs.State.{is_kind};
 ghost use Rattle.heap_model.specs.declared.Kind.TheVariants as kinds;
-ghost use Rattle.backend_fit.specs.Kept.{taken_in};
-ghost use Rattle.heap_now.specs.Blocks.{is_block_at, block_size, Allocates, Frees, Sizes};
+ghost use Rattle.backend_fit.specs.Pages.{taken_in};
+ghost use Rattle.backend_fit.specs.Kept.{is_block_at};
+ghost use Rattle.heap_now.specs.Blocks.{block_size, Allocates, Frees, Sizes};
 
 use backend_fit::Back;
 use heap_model::{Kind, Mark, Reply, Run};

@@ -15,7 +15,9 @@ use Rattle.heap_soundness.proofs.GapRuns.{filtered_cases}
 use Rattle.page_ranges.specs.Words.{runs_of}
 use Rattle.page_ranges.specs.Spans.{span_of, taken_runs, is_of_span, IsUsed, AreRising}
 use Rattle.page_ranges.proofs.Blocks.{taken_rise}
-use Rattle.backend_fit.specs.Kept.{Kept, area_of, taken_in, insert_run, marked_run, marked_span, with_segment}
+use Rattle.backend_fit.specs.Kept.{Kept, area_of}
+use Rattle.backend_fit.specs.Pages.{taken_in}
+use Rattle.backend_fit.specs.Effects.{insert_run, marked_run, marked_span, with_segment}
 use Rattle.backend_fit.specs.Sound.{IsSound}
 use Rattle.heap_model.specs.Ranges.{is_of_kind}
 use Rattle.claim_rule.specs.Shown.{lfh_spans}

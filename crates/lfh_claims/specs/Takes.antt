@@ -12,7 +12,9 @@ use Rattle.heap_model.specs.Legal.{with_span}
 use Rattle.search_laws.specs.Reading.{Found, found_of, pass_found, lfh_block}
 use Rattle.search_laws.specs.Calls.{hint_put, lfh_span}
 use Rattle.claim_rule.specs.Shown.{lfh_spans}
-use Rattle.backend_fit.specs.Kept.{Kept, area_of, taken_in, with_segment, marked_run, insert_run}
+use Rattle.backend_fit.specs.Kept.{Kept, area_of}
+use Rattle.backend_fit.specs.Pages.{taken_in}
+use Rattle.backend_fit.specs.Effects.{with_segment, marked_run, insert_run}
 use Rattle.lfh_claims.specs.Kept.{LfhKept, LfhPart, StandsFor, spans_for, hint_of, with_places}
 
 -- it stands for a front end whose subsegments are those of an area

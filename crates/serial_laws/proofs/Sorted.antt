@@ -2,7 +2,7 @@
 use Rattle.std.proofs.Common.{◌≡◌, ℕ, ◌<◌, ◌≤◌, Bool, true, false, ◌||◌, List, [], ◌∷◌, None, refl, sym, ap, ◌∙◌, arith, ltb, inl, inr}
 use Rattle.std.specs.List.{find, list_any}
 use Rattle.std.proofs.lemmas.Bool.{cases_Bool, lt-ltb, ltb-true, ltb-false}
-use Rattle.heap_model.specs.State.{Place, insert_place, by_address, remove_found}
+use Rattle.heap_model.specs.State.{Place, insert_place, by_address, change_found, remove_found}
 
 -- the first of the places, if there is one, does not begin before an address
 abbrev pub BeginsFrom : ℕ → List Place → Type 0
@@ -149,3 +149,41 @@ removed_sorted test (p ∷ ps) h =
       | inl e ↦ rw e (sym (remove_here test p (by_address ps) h e))
       | inr e ↦ rw e (ap (insert_place p) (removed_sorted test ps one.1) ∙ sym (remove_there test p (by_address ps) (sorted ps) e))
     ]
+
+---- With the one that passes changed, where it is
+
+module _ (test : Place → Bool) (f : Place → Place) (keeps : (p : Place) → (f p).start ≡ p.start) where
+  change_here : (p : Place) (ps : List Place) → test p ≡ true → list_any test ps ≡ false → change_found test f (insert_place p ps) ≡ insert_place (f p) ps
+  change_here p [] t n = rw t refl
+  change_here p (q ∷ qs) t n =
+      let k = keeps p in
+      let none = or_false (test q) (list_any test qs) n in
+      let other = none.0 in
+      elim (cases_Bool (ltb p.start q.start)) [
+        | inl e ↦ let d = ap (λ (a : ℕ). ltb a q.start) k ∙ e in rw (e, d, t) refl
+        | inr e ↦ let d = ap (λ (a : ℕ). ltb a q.start) k ∙ e in rw (e, d, other) (ap (λ (rs : List Place). q ∷ rs) (change_here p qs t none.1))
+      ]
+
+  change_there : (p : Place) (ps : List Place) → test p ≡ false → change_found test f (insert_place p ps) ≡ insert_place p (change_found test f ps)
+  change_there p [] t = rw t refl
+  change_there p (q ∷ qs) t =
+      let k = keeps q in
+      elim (cases_Bool (test q)) [
+        | inl g ↦ elim (cases_Bool (ltb p.start q.start)) [
+          | inl e ↦ let d = ap (λ (a : ℕ). ltb p.start a) k ∙ e in rw (e, g, d, t) refl
+          | inr e ↦ let d = ap (λ (a : ℕ). ltb p.start a) k ∙ e in rw (e, g, d) refl
+        ]
+        | inr g ↦ elim (cases_Bool (ltb p.start q.start)) [
+          | inl e ↦ rw (g, e, t) (rw g refl)
+          | inr e ↦ rw (g, e) (rw g (ap (λ (rs : List Place). q ∷ rs) (change_there p qs t)))
+        ]
+      ]
+
+  pub changed_sorted : (ps : List Place) → OnlyOne test (by_address ps) → by_address (change_found test f ps) ≡ change_found test f (by_address ps)
+  changed_sorted [] h = refl
+  changed_sorted (p ∷ ps) h =
+      let one = one_inserted test p (by_address ps) h in
+      elim (cases_Bool (test p)) [
+        | inl e ↦ rw e (sym (change_here p (by_address ps) e (one.0 e)))
+        | inr e ↦ rw e (ap (insert_place p) (changed_sorted ps one.1) ∙ sym (change_there p (by_address ps) e))
+      ]

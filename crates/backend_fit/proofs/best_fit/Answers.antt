@@ -2,7 +2,7 @@ use Rattle.std.proofs.Common.{◌<◌, ◌∙◌, ap, sym, arith, length, List, 
 use Rattle.heap_model.specs.Runs.{Run, fitting, least}
 use Rattle.heap_model.specs.Backend.{is_better}
 use Rattle.page_ranges.specs.Spans.{plain}
-use Rattle.backend_fit.specs.Kept.{Kept, area_of}
+use Rattle.backend_fit.specs.Pages.{Pages, pages_area}
 use Rattle.page_ranges.proofs.Runs.{Step, step_at}
 use Rattle.backend_fit.proofs.Segment.{frees_of}
 use Rattle.backend_fit.proofs.BestFit.{search_goes_on, search_ends}
@@ -26,14 +26,14 @@ loop-page-smaller c = let s = step (goal.at.loop-page-smaller c).After-run_at-ru
 pub loop-page-preserved : goal.loop-page-preserved
 loop-page-preserved c =
     let s = step (goal.at.loop-page-preserved c).After-run_at-run in
-    let k : Kept = record { region = c.args.region.now; words = c.args.descs.now } in
+    let k : Pages = record { region = c.args.region.now; words = c.args.descs.now } in
     record {
-      search = rw c.better_of-best.ensures.best (search_goes_on c.args.descs.now c.args.region.now.reserved (is_better (area_of k)) c.args.n c.loop-page.page (option_map plain c.loop-page.best) c.run_at-run.result c.loop-page.invariant.search s);
+      search = rw c.better_of-best.ensures.best (search_goes_on c.args.descs.now c.args.region.now.reserved (is_better (pages_area k)) c.args.n c.loop-page.page (option_map plain c.loop-page.best) c.run_at-run.result c.loop-page.invariant.search s);
       inside = c.better_of-best.ensures.inside;
     }
 
 pub returns : goal.returns
 returns c =
-    let k : Kept = record { region = c.args.region.now; words = c.args.descs.now } in
-    let ends = search_ends c.args.descs.now c.args.region.now.reserved (is_better (area_of k)) c.args.n c.loop-page.page (option_map plain c.loop-page.best) c.loop-page.invariant.search (omega arith) in
-    ends ∙ ap (λ (fs : List Run). least (is_better (area_of k)) (fitting c.args.n fs)) (sym (frees_of k c.requires))
+    let k : Pages = record { region = c.args.region.now; words = c.args.descs.now } in
+    let ends = search_ends c.args.descs.now c.args.region.now.reserved (is_better (pages_area k)) c.args.n c.loop-page.page (option_map plain c.loop-page.best) c.loop-page.invariant.search (omega arith) in
+    ends ∙ ap (λ (fs : List Run). least (is_better (pages_area k)) (fitting c.args.n fs)) (sym (frees_of k c.requires))

@@ -1,7 +1,7 @@
 use Rattle.std.proofs.Common.{◌+◌, ◌<◌, length, arith, sym, refl, ◌∙◌}
 use Rattle.page_region.specs.Held.{committed_of}
 use Rattle.page_ranges.proofs.Runs.{Step, step_at}
-use Rattle.backend_fit.specs.Kept.{Kept, area_of}
+use Rattle.backend_fit.specs.Pages.{Pages, pages_area}
 use Rattle.backend_fit.proofs.Decommit.{IsSweep, sweep_begins, free_fits, over_other, over_free, count_small, swept_count}
 use Rattle.backend_fit.proofs.sweep.Goals as goal
 use Rattle.backend_fit.proofs.sweep.Goals.{then-is_free, else-is_free, After-run_at-run}
@@ -13,14 +13,14 @@ step c =
 
 pub loop-page-init : goal.loop-page-init
 loop-page-init c =
-    let k : Kept = record { region = c.args.region.now; words = c.args.descs.now } in
+    let k : Pages = record { region = c.args.region.now; words = c.args.descs.now } in
     record { sweep = sweep_begins k c.requires; reserved = refl; segments = refl; held = c.requires.held }
 
 pub decommit-cleared-requires : goal.decommit-cleared-requires
 decommit-cleared-requires c =
-    let k : Kept = record { region = c.args.region.now; words = c.args.descs.now } in
+    let k : Pages = record { region = c.args.region.now; words = c.args.descs.now } in
     let s = step (goal.at.decommit-cleared-requires c).After-run_at-run in
-    rw c.loop-page.invariant.reserved (free_fits c.args.descs.now (area_of k) c.loop-page.page c.loop-page.cleared (committed_of c.loop-page.region) c.run_at-run.result c.loop-page.invariant.sweep s (sym c.is_free.ensures ∙ c.if-is_free.true) s.is_run.some)
+    rw c.loop-page.invariant.reserved (free_fits c.args.descs.now (pages_area k) c.loop-page.page c.loop-page.cleared (committed_of c.loop-page.region) c.run_at-run.result c.loop-page.invariant.sweep s (sym c.is_free.ensures ∙ c.if-is_free.true) s.is_run.some)
 
 pub overflow_add-cleared : goal.overflow_add-cleared
 overflow_add-cleared c =
@@ -35,9 +35,9 @@ loop-page-smaller c = let s = step (goal.at.loop-page-smaller c).After-run_at-ru
 
 pub loop-page-preserved : goal.loop-page-preserved
 loop-page-preserved c =
-    let k : Kept = record { region = c.args.region.now; words = c.args.descs.now } in
+    let k : Pages = record { region = c.args.region.now; words = c.args.descs.now } in
     let s = step (goal.at.loop-page-preserved c).After-run_at-run in
-    let a = area_of k in
+    let a = pages_area k in
     let page = c.loop-page.page in
     let r = c.run_at-run.result in
     let w = c.loop-page.invariant.sweep in
@@ -65,5 +65,5 @@ loop-page-preserved c =
 
 pub returns-clause-cleared : goal.returns-clause-cleared
 returns-clause-cleared c =
-    let k : Kept = record { region = c.args.region.now; words = c.args.descs.now } in
+    let k : Pages = record { region = c.args.region.now; words = c.args.descs.now } in
     swept_count k c.loop-page.page c.loop-page.cleared (committed_of c.loop-page.region) c.loop-page.invariant.sweep (omega arith)

@@ -6,7 +6,7 @@ use Rattle.page_ranges.specs.Words.{runs_of}
 use Rattle.page_ranges.specs.Ranges.{has_page}
 use Rattle.page_ranges.specs.Spans.{is_usable_in}
 use Rattle.page_ranges.proofs.Runs.{finds_run}
-use Rattle.heap_now.specs.Blocks.{is_block_at}
+use Rattle.backend_fit.specs.Kept.{is_block_at}
 use Rattle.heap_now.proofs.BlockAt.{found_taken, none_within, none_outside, none_unusable, at_page, elsewhere}
 use Rattle.heap_now.proofs.blocks.block_at.Goals as goal
 

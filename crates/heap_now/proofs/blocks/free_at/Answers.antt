@@ -1,6 +1,6 @@
 use Rattle.std.proofs.Common.{◌∙◌, sym}
 use Rattle.heap_now.proofs.BlockAt.{span_there}
-use Rattle.backend_fit.specs.Kept.{taken_in}
+use Rattle.backend_fit.specs.Pages.{taken_in}
 use Rattle.heap_now.proofs.blocks.free_at.Goals as goal
 
 pub give-requires : goal.give-requires

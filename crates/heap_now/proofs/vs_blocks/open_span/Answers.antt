@@ -4,7 +4,9 @@ use Rattle.heap_model.specs.Geometry.{span_pages_of}
 use Rattle.heap_model.specs.State.{insert_span}
 use Rattle.heap_model.specs.Backend.{back_place}
 use Rattle.heap_model.specs.Legal.{with_span}
-use Rattle.backend_fit.specs.Kept.{area_of, taken_in, with_segment, insert_run}
+use Rattle.backend_fit.specs.Kept.{area_of}
+use Rattle.backend_fit.specs.Pages.{taken_in}
+use Rattle.backend_fit.specs.Effects.{with_segment, insert_run}
 use Rattle.vs_layer.specs.Kept.{vs_span}
 use Rattle.vs_layer.specs.Effects.{LieApart}
 use Rattle.heap_now.specs.VsBlocks.{vs_run}

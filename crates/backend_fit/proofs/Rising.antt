@@ -10,10 +10,10 @@ use Rattle.heap_model.specs.State.{Place, is_kind, insert_place, remove_found}
 use Rattle.heap_model.specs.Search.{begins_at}
 use Rattle.heap_model.specs.Legal.{lies_in, has_place, are_used}
 use Rattle.page_ranges.specs.Spans.{span_of, AreRising}
-use Rattle.backend_fit.specs.Kept.{insert_run, starts_at}
+use Rattle.backend_fit.specs.Effects.{insert_run, starts_at}
 use Rattle.serial_laws.proofs.Sorted.{OnlyOne}
-use Rattle.heap_now.specs.Blocks.{is_block_run, is_block_at}
-use Rattle.heap_now.specs.Standing.{place_of, IsBlockRun}
+use Rattle.backend_fit.specs.Effects.{place_of}
+use Rattle.backend_fit.specs.Kept.{is_block_run, is_block_at, IsBlockRun}
 
 block_kind : (k : Kind) → k ≡ kinds.Back → is_kind k kinds.Back ≡ true
 block_kind k e = ap (λ (x : Kind). is_kind x kinds.Back) e
@@ -152,18 +152,18 @@ place_inserted r (q ∷ qs) = elim (cases_Bool (ltb r.first q.first)) [
   | inr e ↦ let t = le-ltb (4096 * r.first) (4096 * q.first) (omega (arith, ltb-false r.first q.first e)) in rw (e, t) (ap (λ (ps : List Place). place_of q ∷ ps) (place_inserted r qs))
 ]
 
-pub blocks_inserted : (r : Run) (rs : List Run) → IsBlockRun r → AllByRecursion IsBlockRun rs → AllByRecursion IsBlockRun (insert_run r rs)
-blocks_inserted r [] b h = (b, tt)
-blocks_inserted r (q ∷ qs) b h = elim (cases_Bool (ltb r.first q.first)) [
+pub all_inserted : (P : Run → Type 0) (r : Run) (rs : List Run) → P r → AllByRecursion P rs → AllByRecursion P (insert_run r rs)
+all_inserted P r [] b h = (b, tt)
+all_inserted P r (q ∷ qs) b h = elim (cases_Bool (ltb r.first q.first)) [
   | inl e ↦ rw e (b, h)
-  | inr e ↦ rw e (h.0, blocks_inserted r qs b h.1)
+  | inr e ↦ rw e (h.0, all_inserted P r qs b h.1)
 ]
 
-pub blocks_removed : (first : ℕ) (rs : List Run) → AllByRecursion IsBlockRun rs → AllByRecursion IsBlockRun (remove_found (starts_at first) rs)
-blocks_removed first [] h = tt
-blocks_removed first (q ∷ qs) h = elim (cases_Bool (eqb q.first first)) [
+pub all_removed : (P : Run → Type 0) (first : ℕ) (rs : List Run) → AllByRecursion P rs → AllByRecursion P (remove_found (starts_at first) rs)
+all_removed P first [] h = tt
+all_removed P first (q ∷ qs) h = elim (cases_Bool (eqb q.first first)) [
   | inl e ↦ rw e h.1
-  | inr e ↦ rw e (h.0, blocks_removed first qs h.1)
+  | inr e ↦ rw e (h.0, all_removed P first qs h.1)
 ]
 
 -- the run of a block that is found is that of its first page

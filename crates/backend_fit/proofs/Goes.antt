@@ -12,9 +12,9 @@ use Rattle.heap_model.specs.Legal.{is_run_of}
 use Rattle.serial_laws.specs.BackCalls.{one_more_reserved}
 use Rattle.page_ranges.specs.Ranges.{AreRuns}
 use Rattle.page_ranges.specs.Spans.{is_of_span, is_usable_in, IsUsed, spans_in}
-use Rattle.backend_fit.specs.Kept.{with_segment}
+use Rattle.backend_fit.specs.Effects.{with_segment}
 use Rattle.backend_fit.proofs.Least.{fitting_all, least_all}
-use Rattle.heap_now.proofs.NextSegment.{AreBelow, one_run_more}
+use Rattle.backend_fit.proofs.NextSegment.{AreBelow, one_run_more}
 
 ---- Spans and free runs lie in the reserved segments
 

@@ -6,7 +6,7 @@ use Rattle.heap_model.specs.Runs.{Run, joined, runs}
 use Rattle.heap_model.specs.State.{Area, Span}
 use Rattle.heap_model.specs.Backend.{in_span, is_free, free_runs}
 use Rattle.serial_laws.specs.BackCalls.{one_more_reserved}
-use Rattle.heap_now.proofs.Tail.{tail, tail_run}
+use Rattle.backend_fit.proofs.Tail.{tail, tail_run}
 
 ---- Runs of two stretches
 
