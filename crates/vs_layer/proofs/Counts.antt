@@ -235,3 +235,14 @@ some_left k live n test p a is found = by (bucket_of n) (has_counter n) is
     by (Some c) few of =
         let said : one (is_live_in c p) ≡ 1 = ap one (of c ∙ eq-eqb c c refl) in
         omega (arith, a.live_are c (few c refl), count_removed (is_live_in c) test (places_of k) p found, said)
+
+---- The room for the counters is as before
+
+pub more_room : (o : Option ℕ) (xs ys : List ℕ) (c d : ℕ) → c ≡ length xs → d ≡ c → ys ≡ one_more o xs → d ≡ length ys
+more_room o xs ys c d e f g = f ∙ e ∙ sym (ap length g ∙ more_length o xs)
+
+pub less_room : (o : Option ℕ) (xs ys : List ℕ) (c d : ℕ) → c ≡ length xs → d ≡ c → ys ≡ one_less o xs → d ≡ length ys
+less_room o xs ys c d e f g = f ∙ e ∙ sym (ap length g ∙ less_length o xs)
+
+pub once_room : (o : Option ℕ) (xs ys : List ℕ) (c d : ℕ) → c ≡ length xs → d ≡ c → ys ≡ once_more o xs → d ≡ length ys
+once_room o xs ys c d e f g = f ∙ e ∙ sym (ap length g ∙ once_length o xs)

@@ -112,7 +112,7 @@ has_placed xs v x g unused h s at sized =
     let w : Chunks = with_head v g (Some k) in
     let t = but_set xs v x g h k s at refl refl in
     let is = head_set xs v x g h k s at refl refl in
-    let kept : VsKept = record { spans = xs; chunks = w; served = []; active = [] } in
+    let kept : VsKept = record { limits = record { segments = 0; large_pages = 0; slots = 0; callers = 0 }; spans = xs; chunks = w; served = []; active = [] } in
     let again = placed_again kept x g k t is refl sized in
     record {
       sound = λ n es ec. sound_of kept n es ec again.chunks;

@@ -23,3 +23,4 @@ pub mod Dropped
 pub mod Reach
 pub mod Resized
 pub mod DropBlock
+pub mod Standing

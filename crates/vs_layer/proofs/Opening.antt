@@ -17,7 +17,7 @@ use Rattle.vs_layer.specs.Effects.{IsSpanOfChunks}
 use Rattle.vs_layer.specs.Sound.{spans_from, AreUsablePages, AreChunksSound, IsIndexOf, AreCounted, IsSound}
 use Rattle.vs_layer.proofs.Spans.{spans_none}
 
-places_none : (g n : ℕ) → places_from g (replicate n None) ≡ []
+pub places_none : (g n : ℕ) → places_from g (replicate n None) ≡ []
 places_none g zero = refl
 places_none g (suc n) = places_none (suc g) n
 

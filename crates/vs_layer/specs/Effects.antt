@@ -1,6 +1,7 @@
 -- What a call makes of the blocks and spans of the variable-size layer.
 use Rattle.std.specs.Prelude.{◌≡◌, ◌⊎◌, ℕ, ◌+◌, ◌*◌, ◌≤◌, Bool, true, false, not, List, [], length, Option, Some, None, replicate}
 use Rattle.std.specs.List.{AllByRecursion}
+use Rattle.heap_model.specs.declared.Limits.{Limits}
 use Rattle.heap_model.specs.Buckets.{bucket_of}
 use Rattle.heap_model.specs.Geometry.{page_bytes, units_of}
 use Rattle.heap_model.specs.Runs.{Run}
@@ -16,10 +17,11 @@ use Rattle.vs_split.specs.Shown.{head_shown}
 use Rattle.vs_layer.specs.Kept.{VsKept, places_of, served_of, place_for, block_in, block_at, span_over, places_without, reach_of, lets_stay}
 
 -- no span, no chunk, and no bucket served or active
-abbrev pub nothing_kept : ℕ → ℕ → VsKept
-nothing_kept segments key = record {
+abbrev pub nothing_kept : Limits → ℕ → VsKept
+nothing_kept limits key = record {
+  limits = limits;
   spans = [];
-  chunks = record { key = key; heads = replicate (65536 * segments) None };
+  chunks = record { key = key; heads = replicate (65536 * limits.segments) None };
   served = replicate 129 0;
   active = replicate 129 false;
 }

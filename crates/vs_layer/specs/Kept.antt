@@ -1,7 +1,8 @@
--- What the variable-size layer keeps: its spans, the chunks in them, which buckets it has served, and which are active.
+-- What the variable-size layer keeps: the limits that it was made for, its spans, the chunks in them, which buckets it has served, and which are active.
 use Rattle.std.specs.Prelude.{ℕ, suc, ◌+◌, ◌-◌, ◌*◌, ◌/◌, Bool, false, ◌&&◌, nat_le, List, [], ◌∷◌, ◌++◌, Option, Some, None, if◌then◌else◌}
 use Rattle.std.specs.List.{find, slice_index_or}
 use Rattle.heap_model.specs.declared.Kind.TheVariants as kinds
+use Rattle.heap_model.specs.declared.Limits.{Limits}
 use Rattle.heap_model.specs.declared.Layer.TheVariants as layers
 use Rattle.heap_model.specs.Geometry.{page_bytes, units_of}
 use Rattle.heap_model.specs.Runs.{Run}
@@ -13,6 +14,7 @@ use Rattle.vs_headers.specs.declared.Head.{Head}
 use Rattle.vs_split.specs.Chunks.{Chunks}
 
 pub record VsKept : Type 0 where
+  pub limits : Limits
   pub spans : List Span  -- by address
   pub chunks : Chunks
   pub served : List ℕ  -- of a bucket; bucket 0 is none

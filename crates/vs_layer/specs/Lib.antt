@@ -3,3 +3,4 @@ pub mod Effects
 pub mod Sound
 pub mod Counted
 pub mod Steps
+pub mod Standing

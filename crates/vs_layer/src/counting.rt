@@ -1,6 +1,7 @@
 // How many blocks of each bucket live here, and how often one was placed here.
 ghost use Rattle.std.specs.Prelude.{◌≡◌, ℕ, ◌≤◌, length, IfOk, replicate};
 ghost use Rattle.std.specs.List.{slice_index_or};
+ghost use Rattle.std.specs.Vec.{vec_capacity};
 ghost use Rattle.heap_model.specs.Buckets.{bucket_of};
 ghost use Rattle.vs_layer.specs.Counted.{one_more, one_less, once_more, CanGrow, IsSomeLeft};
 
@@ -20,6 +21,7 @@ impl Counts {
     pub(crate) fn new(alloc: Global) -> Result<Counts, OutOfMemory>
         ensures live { IfOk result (λ c. c.live.items ≡ replicate 129 0) }
         ensures served { IfOk result (λ c. c.served.items ≡ replicate 129 0) }
+        ensures full { IfOk result (λ c. (vec_capacity c.live ≡ length c.live.items) × (vec_capacity c.served ≡ length c.served.items)) }
     {
         Ok(Counts {
             live: filled(alloc, 0u32, BUCKETS)?,
@@ -35,6 +37,8 @@ impl Counts {
         requires most { (b : ℕ) → slice_index_or self.old.served.items b 0 ≤ 2040 }
         ensures live { self.new.live.items ≡ one_more (bucket_of n) self.old.live.items }
         ensures served { self.new.served.items ≡ once_more (bucket_of n) self.old.served.items }
+        ensures live_room { vec_capacity self.new.live ≡ vec_capacity self.old.live }
+        ensures served_room { vec_capacity self.new.served ≡ vec_capacity self.old.served }
     {
         if let Some(bucket) = bucket_of(n) {
             let b = usize::from(bucket);
@@ -49,6 +53,7 @@ impl Counts {
         requires some { IsSomeLeft (bucket_of n) self.old.live.items }
         ensures live { self.new.live.items ≡ one_less (bucket_of n) self.old.live.items }
         ensures served { self.new.served ≡ self.old.served }
+        ensures live_room { vec_capacity self.new.live ≡ vec_capacity self.old.live }
     {
         if let Some(bucket) = bucket_of(n) {
             self.live[usize::from(bucket)] -= 1;
@@ -62,6 +67,7 @@ impl Counts {
         requires some { IsSomeLeft (bucket_of old) self.old.live.items }
         ensures live { self.new.live.items ≡ one_more (bucket_of new) (one_less (bucket_of old) self.old.live.items) }
         ensures served { self.new.served ≡ self.old.served }
+        ensures live_room { vec_capacity self.new.live ≡ vec_capacity self.old.live }
     {
         self.dropped(old);
         if let Some(bucket) = bucket_of(new) {

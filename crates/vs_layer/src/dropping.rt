@@ -6,6 +6,7 @@ ghost use Rattle.vs_split.specs.Chunks.{chunk_at, head_at};
 ghost use Rattle.vs_split.specs.Tiles.{IsTiled};
 ghost use Rattle.vs_layer.specs.Kept.{block_at};
 ghost use Rattle.vs_layer.specs.Effects.{TellsLast, HasDropped};
+ghost use Rattle.vs_layer.specs.Standing.{Becomes, without_block, without_closed};
 ghost use Rattle.vs_layer.specs.Steps.{is_free_before, is_free_after, TakesInBehind, IsTakenBefore};
 
 use crate::{Tiling, Vs};
@@ -42,7 +43,9 @@ impl Vs {
     /// it is closed, and its first page and its pages are answered: the caller gives it back to the back end.
     pub fn drop_block(&mut self, addr: u64) -> Option<(u32, u32)>
         requires { (p : Place) × (block_at self.old addr ≡ Some p) }
-        ensures { HasDropped self.old self.new addr result }
+        ensures dropped { HasDropped self.old self.new addr result }
+        ensures limits { self.new.limits ≡ self.old.limits }
+        ensures stands { Becomes self.old self.new (λ v. without_block v addr) (without_closed result) }
     {
         let start = addr - GRANULE_BYTES;
         let head = self.tiling.heads.chunk_at(start).unwrap();

@@ -21,12 +21,15 @@ ghost use Rattle.std.specs.Prelude.{◌≡◌, ◌≤◌, IfOk, true};
 ghost use Rattle.heap_model.specs.Geometry.{span_pages_of, units_of};
 ghost use Rattle.heap_model.specs.Limits.{AreValid};
 ghost use Rattle.heap_model.specs.Stay.{is_due};
-ghost use Rattle.heap_model.specs.State.{updated};
-ghost use Rattle.vs_layer.specs.Kept.{places_of, active_of, part_of};
-ghost use Rattle.vs_layer.specs.Effects.{nothing_kept, IsOfOneHeap, ShowsChunks};
+ghost use Rattle.heap_model.specs.State.{updated, opening};
+ghost use Rattle.vs_layer.specs.Kept.{active_of, part_of};
+ghost use Rattle.heap_model.specs.declared.Opening.{Opening};
+ghost use Rattle.heap_model.specs.Layers.{StandsForVs, header_key};
+ghost use Rattle.vs_layer.specs.Effects.{nothing_kept, ShowsChunks};
+ghost use Rattle.vs_layer.specs.Standing.{layer_of, Becomes, with_active};
 
 use counting::Counts;
-use heap_model::{FRONT_GRANULES, GRANULE_BYTES, Limits, OutOfMemory, PAGE_BYTES, SEGMENT_PAGES, filled};
+use heap_model::{FRONT_GRANULES, GRANULE_BYTES, Limits, OutOfMemory, PAGE_BYTES, SEGMENT_PAGES, Stands, filled};
 use std::alloc::Global;
 use std::marker::Model;
 use vs_free_tree::FreeIndex;
@@ -46,10 +49,12 @@ const DUE_LIVE: u32 = 17;
 
 const DUE_SERVED: u16 = 2040;
 
-/// The variable-size layer of a heap. Contracts see its spans, its chunks, which buckets it has served, and which are
-/// active. The live blocks, by address, are `places_of` it.
+/// The variable-size layer of a heap, made for some limits. Contracts see its spans, its chunks, which buckets it has served,
+/// and which are active. The live blocks, by address, are `places_of` it, and `layer_of` is the part of a heap that its lock
+/// guards.
 #[derive(Drop)]
 pub struct Vs {
+    limits: Limits,
     tiling: Tiling,
     /// How many pages the span has that starts at a page, 0 where none does.
     pages: Vec<u8>,
@@ -65,24 +70,34 @@ pub(crate) struct Tiling {
 }
 
 impl Model for Vs {
+    ghost use Rattle.std.specs.Prelude.{◌≡◌, length};
+    ghost use Rattle.std.specs.Vec.{vec_capacity};
     ghost use Rattle.vs_layer.specs.Kept.{VsKept};
     ghost use Rattle.vs_layer.specs.Sound.{spans_from, IsSound};
 
     ghost Value = { VsKept };
 
-    ghost view = { λ v. record { spans = spans_from 0 v.pages.items; chunks = v.tiling.heads; served = v.counts.served.items; active = v.active.items } };
+    ghost view = { λ v. record { limits = v.limits; spans = spans_from 0 v.pages.items; chunks = v.tiling.heads; served = v.counts.served.items; active = v.active.items } };
 
-    ghost invariant = { λ v. IsSound (record { spans = spans_from 0 v.pages.items; chunks = v.tiling.heads; served = v.counts.served.items; active = v.active.items }) v.pages.items v.tiling.index v.counts.live.items };
+    ghost invariant = { λ v. IsSound (record { limits = v.limits; spans = spans_from 0 v.pages.items; chunks = v.tiling.heads; served = v.counts.served.items; active = v.active.items }) v.pages.items v.tiling.index v.counts.live.items × (vec_capacity v.pages ≡ length v.pages.items) × (vec_capacity v.active ≡ length v.active.items) × (vec_capacity v.counts.live ≡ length v.counts.live.items) × (vec_capacity v.counts.served ≡ length v.counts.served.items) };
+}
+
+impl Stands for Vs {
+    ghost use Rattle.vs_layer.specs.Standing.{layer_of};
+
+    ghost stands = { λ v. layer_of v };
 }
 
 impl Vs {
     /// No span, in a heap with these limits and this key. It takes all the memory that it will ever use.
     pub fn new(alloc: Global, limits: &Limits, key: u64) -> Result<Vs, OutOfMemory>
         requires { AreValid limits.now }
-        ensures { IfOk result (λ v. v ≡ nothing_kept limits.now.segments key) }
+        ensures nothing { IfOk result (λ v. v ≡ nothing_kept limits.now key) }
+        ensures stands { IfOk result (λ v. (o : Opening) → o.limits ≡ limits.now → header_key o.seed ≡ key → StandsForVs o opening (layer_of v)) }
     {
         let pages = (SEGMENT_PAGES * limits.segments) as usize;
         Ok(Vs {
+            limits: *limits,
             tiling: Tiling {
                 heads: Heads::new(alloc, limits, key)?,
                 index: FreeIndex::new(alloc, SEGMENT_GAPS * limits.segments)?,
@@ -126,6 +141,8 @@ impl Vs {
         ensures chunks { self.new.chunks ≡ self.old.chunks }
         ensures spans { self.new.spans ≡ self.old.spans }
         ensures served { self.new.served ≡ self.old.served }
+        ensures limits { self.new.limits ≡ self.old.limits }
+        ensures stands { Becomes self.old self.new (λ v. with_active v bucket) (λ xs. xs) }
     {
         self.active[usize::from(bucket)] = true;
     }

@@ -9,7 +9,9 @@ ghost use Rattle.vs_headers.specs.declared.Head.{Head};
 ghost use Rattle.vs_split.specs.Chunks.{chunk_at, split_chunk};
 ghost use Rattle.vs_split.specs.Tiles.{AreSpanPages, IsTiled};
 ghost use Rattle.vs_layer.specs.Kept.{vs_span, places_of, place_for};
+ghost use Rattle.heap_model.specs.Runs.{Run};
 ghost use Rattle.vs_layer.specs.Effects.{IsOfOneHeap, LieApart, HasPlaced};
+ghost use Rattle.vs_layer.specs.Standing.{Becomes, with_block};
 
 use crate::{Tiling, Vs, units_for};
 use heap_model::{FRONT_GRANULES, GRANULE_BYTES, PAGE_GRANULES};
@@ -32,6 +34,8 @@ impl Vs {
         ensures served { self.new.served ≡ self.old.served }
         ensures active { self.new.active ≡ self.old.active }
         ensures heap { IsOfOneHeap self.old self.new }
+        ensures limits { self.new.limits ≡ self.old.limits }
+        ensures stands { Becomes self.old self.new (λ v. v) (insert_span (vs_span first pages)) }
     {
         self.tiling.heads.open_span(first, pages);
         self.tiling.index.add(
@@ -45,7 +49,9 @@ impl Vs {
     pub fn place(&mut self, n: u64) -> u64
         requires size { n ≤ 131072 }
         requires fits { is_some (place_for self.old n) ≡ true }
-        ensures { HasPlaced self.old self.new n result }
+        ensures placed { HasPlaced self.old self.new n result }
+        ensures limits { self.new.limits ≡ self.old.limits }
+        ensures stands { (run : Run) → place_for self.old n ≡ Some run → Becomes self.old self.new (λ v. with_block v run n) (λ xs. xs) }
     {
         let units = units_for(n);
         let (all, at) = self.tiling.index.best(units).unwrap();

@@ -3,7 +3,11 @@ ghost use Rattle.std.specs.Prelude.{◌≡◌, ◌+◌, ◌/◌, Some};
 ghost use Rattle.heap_model.specs.State.{Place};
 ghost use Rattle.vs_split.specs.Chunks.{chunk_at};
 ghost use Rattle.vs_split.specs.Tiles.{IsTiled};
-ghost use Rattle.vs_layer.specs.Kept.{block_at, lets_stay};
+ghost use Rattle.std.specs.Bool.{OnTrue};
+ghost use Rattle.heap_model.specs.Geometry.{units_of};
+ghost use Rattle.heap_model.specs.Ranges.{taken_of};
+ghost use Rattle.vs_layer.specs.Kept.{block_at, lets_stay, reach_of};
+ghost use Rattle.vs_layer.specs.Standing.{Becomes, with_length};
 ghost use Rattle.vs_layer.specs.Effects.{ResizesOrKeeps};
 ghost use Rattle.vs_layer.specs.Steps.{gap_behind, units_of_gap};
 
@@ -28,7 +32,9 @@ impl Vs {
     /// they are a gap.
     pub fn resize_in_place(&mut self, addr: u64, n: u64) -> bool
         requires { (p : Place) × (block_at self.old addr ≡ Some p) }
-        ensures { ResizesOrKeeps self.old self.new addr n result }
+        ensures resizes { ResizesOrKeeps self.old self.new addr n result }
+        ensures limits { self.new.limits ≡ self.old.limits }
+        ensures stands { OnTrue result ((p : Place) → block_at self.old addr ≡ Some p → Becomes self.old self.new (λ v. with_length v addr (taken_of (units_of n) (reach_of self.old p)) n) (λ xs. xs)) }
     {
         if !self.room_in_place(addr, n) {
             return false;

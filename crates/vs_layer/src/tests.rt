@@ -72,7 +72,7 @@ fn first_wrong(vs: &mut Vs, steps: &[Step]) -> Option<usize> {
 
 /// A heap of one segment.
 fn empty(alloc: Global) -> Result<Vs, OutOfMemory>
-    ensures { IfOk result (λ vs. vs ≡ nothing_kept 1 42) }
+    ensures { IfOk result (λ vs. vs ≡ nothing_kept (record { segments = 1; large_pages = 0; slots = 1; callers = 1 }) 42) }
 {
     let limits = Limits {
         segments: 1,

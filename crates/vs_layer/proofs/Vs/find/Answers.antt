@@ -16,12 +16,12 @@ returns-in_err-head c =
 pub size_in-requires-clause-some : goal.size_in-requires-clause-some
 size_in-requires-clause-some c =
     let there = sym c.chunk_at.ensures.head ∙ c.in_ok-head.was in
-    omega (arith, (c.self.invariant.chunks.tiled.tiles ((c.args.addr - 16) / 16) c.in_ok-head.head (chunk_of c.self.inside.tiling.heads (c.args.addr - 16) c.in_ok-head.head there).head).some)
+    omega (arith, (c.self.invariant.0.chunks.tiled.tiles ((c.args.addr - 16) / 16) c.in_ok-head.head (chunk_of c.self.inside.tiling.heads (c.args.addr - 16) c.in_ok-head.head there).head).some)
 
 pub size_in-requires-clause-within : goal.size_in-requires-clause-within
 size_in-requires-clause-within c =
     let there = sym c.chunk_at.ensures.head ∙ c.in_ok-head.was in
-    omega (arith, (c.self.invariant.chunks.sized ((c.args.addr - 16) / 16) c.in_ok-head.head (chunk_of c.self.inside.tiling.heads (c.args.addr - 16) c.in_ok-head.head there).head c.if-head.true).unused)
+    omega (arith, (c.self.invariant.0.chunks.sized ((c.args.addr - 16) / 16) c.in_ok-head.head (chunk_of c.self.inside.tiling.heads (c.args.addr - 16) c.in_ok-head.head there).head c.if-head.true).unused)
 
 pub returns-then-head : goal.returns-then-head
 returns-then-head c =

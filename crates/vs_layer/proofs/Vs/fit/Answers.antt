@@ -7,6 +7,6 @@ use Rattle.vs_layer.proofs.Vs.fit.Goals as goal
 pub returns : goal.returns
 returns c =
     c.is_some.ensures
-    ∙ best_is _ c.self.invariant.chunks c.self.inside.tiling.index c.self.invariant.index c.units_for.result c.best.result c.best.ensures
+    ∙ best_is _ c.self.invariant.0.chunks c.self.inside.tiling.index c.self.invariant.0.index c.units_for.result c.best.result c.best.ensures
     ∙ ap (λ k. is_some (vs_place (gaps_in k) c.units_for.result)) c.self.view_is
     ∙ ap (λ n. is_some (vs_place (gaps_in c.args.self.now) n)) c.units_for.ensures

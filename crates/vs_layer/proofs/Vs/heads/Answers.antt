@@ -4,4 +4,4 @@ use Rattle.vs_layer.proofs.Shown.{shows_chunks}
 use Rattle.vs_layer.proofs.Vs.heads.Goals as goal
 
 pub returns-clause-shown : goal.returns-clause-shown
-returns-clause-shown c = subst ShowsChunks c.self.view_is (shows_chunks _ c.self.invariant.chunks c.self.invariant.plain)
+returns-clause-shown c = subst ShowsChunks c.self.view_is (shows_chunks _ c.self.invariant.0.chunks c.self.invariant.0.plain)
