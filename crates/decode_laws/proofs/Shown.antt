@@ -4,6 +4,7 @@ use Rattle.std.specs.Prelude.{filter, option_map, option_and_then, unwrap_or, le
 use Rattle.std.specs.List.{AllByRecursion, find, list_all}
 use Rattle.std.specs.Option.{option_map_or}
 use Rattle.std.proofs.lemmas.Bool.{cases_lt, eqb-true, and_from, and_parts, or_cases, le-leb, leb-true, false≢true}
+use Rattle.heap_model.specs.declared.Limits.{Limits}
 use Rattle.heap_model.specs.declared.Block.{Block}
 use Rattle.heap_model.specs.declared.Kind.{Kind}
 use Rattle.heap_model.specs.declared.Kind.TheVariants as kinds
@@ -265,6 +266,8 @@ module _ (s : Setting) (st : State) (image : Image) (known : IsKnownState s st) 
       subsegments = all_from (λ (r : Run). IsRunOfBlocks image.limits r r.mark.kind) (runs_of image.descs) (λ r i. (read_of_kind r i r.mark.kind refl).0);
       fits = all_from (λ (r : Run). BlocksFit image r r.mark.kind) (runs_of image.descs) (λ r i. (read_of_kind r i r.mark.kind refl).1);
       words = shown.front.words_are;
+      segments = shown.segments ∙ sym (ap (λ (l : Limits). l.segments) shown.limits);
+      pages = shown.pages ∙ sym (ap (λ (l : Limits). 256 * l.segments) shown.limits);
     }
 
     -- the blocks of a run of the layer

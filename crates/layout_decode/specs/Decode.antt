@@ -1,5 +1,5 @@
 -- The live blocks that the metadata of a heap tells of: descriptors, header words, bitmaps and size words, and nothing else.
-use Rattle.std.specs.Prelude.{◌≡◌, ℕ, zero, suc, ◌+◌, ◌-◌, ◌*◌, ◌/◌, ◌%◌, ◌==◌, ◌≤◌, Bool, ◌&&◌, not, nat_le, nat_lt, List, [], ◌∷◌, ◌++◌, slice_index, flat_map, sum_by, Option, Some, if◌then◌else◌, cond}
+use Rattle.std.specs.Prelude.{◌≡◌, ℕ, zero, suc, ◌+◌, ◌-◌, ◌*◌, ◌/◌, ◌%◌, ◌==◌, ◌≤◌, Bool, ◌&&◌, not, nat_le, nat_lt, List, [], ◌∷◌, ◌++◌, length, slice_index, flat_map, sum_by, Option, Some, if◌then◌else◌, cond}
 use Rattle.std.specs.List.{AllByRecursion}
 use Rattle.std.specs.Option.{option_map_or}
 use Rattle.heap_model.specs.declared.Kind.{Kind}
@@ -110,7 +110,8 @@ BlocksFit image r kinds.Lfh = AllByRecursion (λ b. b.size ≤ block_size r.mark
 BlocksFit image r _ = Unit {0}
 
 -- An image can be read: its runs are whole, chunks tile those of the variable-size layer, each header word tells its chunk, those of the
--- low-fragmentation front end are subsegments of their buckets, whose blocks fit, and the words are those of a heap with these limits.
+-- low-fragmentation front end are subsegments of their buckets, whose blocks fit, and words, region and descriptors are those of a heap with
+-- these limits.
 pub record IsReadable (image : Image) : Type 0 where
   pub whole : IsWhole image.descs
   pub rows : AllByRecursion (λ r. IsRunOfChunks image.heads r r.mark.kind) (runs_of image.descs)
@@ -118,3 +119,5 @@ pub record IsReadable (image : Image) : Type 0 where
   pub subsegments : AllByRecursion (λ r. IsRunOfBlocks image.limits r r.mark.kind) (runs_of image.descs)
   pub fits : AllByRecursion (λ r. BlocksFit image r r.mark.kind) (runs_of image.descs)
   pub words : AreWords image.limits image.words
+  pub segments : image.region.segments ≡ image.limits.segments
+  pub pages : length image.descs ≡ 256 * image.limits.segments

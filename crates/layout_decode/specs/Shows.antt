@@ -1,5 +1,5 @@
 -- When an image shows a state.
-use Rattle.std.specs.Prelude.{◌≡◌, ℕ, ◌+◌, ◌*◌, ◌-◌, ◌/◌, ◌%◌, ◌<◌, ◌≤◌, true, List, [], ◌∷◌, map, slice_index, option_map, option_and_then, unwrap_or}
+use Rattle.std.specs.Prelude.{◌≡◌, ℕ, ◌+◌, ◌*◌, ◌-◌, ◌/◌, ◌%◌, ◌<◌, ◌≤◌, true, List, [], ◌∷◌, map, length, slice_index, option_map, option_and_then, unwrap_or}
 use Rattle.std.specs.List.{find, list_any}
 use Rattle.heap_model.specs.declared.Kind.{Kind}
 use Rattle.heap_model.specs.declared.Kind.TheVariants as kinds
@@ -17,8 +17,8 @@ use Rattle.page_ranges.specs.Spans.{taken_runs, frees_in}
 use Rattle.vs_headers.specs.Headers.{key_of}
 use Rattle.vs_split.specs.Chunks.{head_at, word_at}
 use Rattle.vs_split.specs.Shown.{head_shown, word_shown}
-use Rattle.claim_rule.specs.Places.{active_region, hints_region, tags_region, bitmaps_region, sizes_region}
-use Rattle.claim_rule.specs.Shown.{AreShown, lfh_spans, flag, tag_of, bitmap_word, size_word}
+use Rattle.claim_rule.specs.Places.{made_word, active_region, hints_region, tags_region, bitmaps_region, sizes_region, data_region}
+use Rattle.claim_rule.specs.Shown.{AreShown, GateShown, lfh_spans, flag, tag_of, bitmap_word, size_word}
 use Rattle.table_words.specs.Told.{AreWords}
 use Rattle.layout_decode.specs.declared.Image.{Image}
 
@@ -51,17 +51,23 @@ pub record ShowsFront (l : Limits) (words : List ℕ) (st : State) : Type 0 wher
   pub bitmaps : AreShown words (bitmaps_region l) (λ k. bitmap_word st.lfh (lfh_spans st.back.area) (k / 4) (k % 4))
   pub sizes : AreShown words (sizes_region l) (size_word st.lfh)
 
--- The descriptors are those of the spans and the free runs of the state, the region has its reserved segments and committed pages, a chunk is
--- marked where a place or a gap begins and nowhere else, the header words are those of its places and gaps, by the key of the heap, and the
--- words of the low-fragmentation front end are those of its front end.
+-- The region and the descriptors have the segments of the heap. The descriptors are those of the spans and the free runs of the state, the
+-- region has its reserved segments and committed pages, a chunk is marked where a place or a gap begins and nowhere else, and the header words
+-- are those of its places and gaps, by the key of the heap. Of the table, the words of the low-fragmentation front end, the data words, the
+-- gate and the locks are those of the state, and no more callers were made than there may be.
 pub record Shows (image : Image) (s : Setting) (st : State) : Type 0 where
   pub limits : image.limits ≡ s.limits
   pub key : image.key ≡ key_of s.seed
+  pub segments : image.region.segments ≡ s.limits.segments
   pub reserved : image.region.reserved ≡ st.back.area.reserved
   pub committed : committed_of image.region ≡ st.back.area.committed
+  pub pages : length image.descs ≡ 256 * s.limits.segments
   pub whole : IsWhole image.descs
   pub spans : taken_runs (runs_of image.descs) ≡ map (run_of_span st.back.places) st.back.area.spans
   pub free : frees_in (runs_of image.descs) ≡ free_runs st.back.area
   pub marks : (g : ℕ) → head_at image.heads g ≡ head_shown (vs_spans st.back.area) st.vs.places g
   pub headers : (g : ℕ) → word_at image.heads g ≡ word_shown image.key (vs_spans st.back.area) st.vs.places g
   pub front : ShowsFront image.limits image.words st
+  pub contents : AreShown image.words (data_region image.limits) st.words
+  pub gate : GateShown st.gate image.words
+  pub made : slice_index image.words made_word ≤ s.limits.callers

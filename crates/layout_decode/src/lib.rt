@@ -16,14 +16,10 @@ ghost use Rattle.layout_decode.specs.Decode.{decode, is_at_or_after, total_of, I
 
 use crate::places::tiled;
 use crate::runs::{count_in, next_in};
-use heap_model::{Block, Limits};
+use heap_model::{Block, Limits, PAGE_BYTES, Words};
 use page_ranges::Descs;
 use page_region::Region;
-use table_words::Words;
 use vs_split::Heads;
-
-/// The bytes of a page.
-pub const PAGE_BYTES: u64 = 4096;
 
 /// What a heap leaves behind: its limits, its region, the descriptors of its pages, the key that its header words are
 /// encoded by, those words, and the words of its table.

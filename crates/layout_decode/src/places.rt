@@ -8,17 +8,9 @@ ghost use Rattle.heap_model.specs.declared.Kind.TheVariants as kinds;
 ghost use Rattle.layout_decode.specs.Decode.{blocks_of, place_block, is_at_or_after, total_of, IsRunOfChunks, AreTold};
 
 use crate::Image;
-use heap_model::{Block, Layer, Run};
+use heap_model::{Block, FRONT_GRANULES, GRANULE_BYTES, Layer, PAGE_GRANULES, Run};
 use vs_headers::Head;
 use vs_split::Heads;
-
-/// The bytes of a granule.
-const GRANULE_BYTES: u64 = 16;
-
-/// The granules of a page, and of the front of a run, which holds no chunk.
-const PAGE_GRANULES: u32 = 256;
-
-const FRONT_GRANULES: u32 = 3;
 
 /// Tells the contracts of its callers that chunks lie one behind the other.
 pub fn tiled(heads: &Heads)

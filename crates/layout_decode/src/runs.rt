@@ -9,8 +9,8 @@ ghost use Rattle.layout_decode.specs.Decode.{blocks_of, is_at_or_after, total_of
 
 use crate::places::{count_places, next_place};
 use crate::subsegments::{count_in_subsegment, next_in_subsegment};
-use crate::{Image, PAGE_BYTES};
-use heap_model::{Block, Kind, Layer, Run};
+use crate::Image;
+use heap_model::{Block, Kind, Layer, PAGE_BYTES, Run};
 
 /// The first block of a run at an address or after it.
 pub fn next_in(image: &Image, run: &Run, from: u64) -> Option<Block>

@@ -8,15 +8,9 @@ ghost use Rattle.table_words.specs.Told.{AreWords};
 ghost use Rattle.layout_decode.specs.Decode.{blocks_of, block_at_bit, is_taken_in, is_at_or_after, total_of, IsOfBucket, BlocksFit};
 
 use crate::Image;
-use heap_model::{Block, Layer, Run};
+use heap_model::{Block, GRANULE_BYTES, Layer, Run, WORD_BITS};
 use lfh_buckets::{block_at, block_size, count};
 use table_words::{bitmap_at, size_at};
-
-/// The bits of a bitmap word.
-const WORD_BITS: u32 = 64;
-
-/// The bytes of a granule, which has one size word.
-const GRANULE_BYTES: u64 = 16;
 
 /// The first block of a subsegment at an address or after it.
 ///

@@ -7,13 +7,13 @@ ghost use Rattle.vs_split.specs.Laws.{IsRow};
 ghost use Rattle.layout_decode.specs.Decode.{AreTold, IsReadable};
 
 use crate::{Image, count_blocks, next_block};
-use heap_model::{Block, Kind, Layer, Limits, Mark, OutOfMemory};
+use heap_model::{Block, Kind, Layer, Limits, Mark, OutOfMemory, Words};
 use page_ranges::Descs;
 use page_region::Region;
 use std::alloc::Global;
 use std::process::Abort;
 use std::test::Fail;
-use table_words::{Words, bitmap_at, size_at};
+use table_words::{bitmap_at, size_at, words_of};
 use vs_split::Heads;
 
 /// The key of the heap whose seed is 42.
@@ -135,7 +135,7 @@ fn five_blocks<R: Abort>(rt: &R, alloc: Global) -> Result<Image, OutOfMemory>
 fn empty_words(alloc: Global) -> Result<Words, OutOfMemory>
     ensures { IfOk result (AreWords ONE_SEGMENT) }
 {
-    Words::new(alloc, &ONE_SEGMENT)
+    words_of(alloc, &ONE_SEGMENT)
 }
 
 /// The words of the subsegment. The bits are those of blocks 0, 5, 63, 64 and 125, and block 5 is in hand: it has no size
@@ -162,7 +162,7 @@ fn words_of_four_blocks(alloc: Global) -> Result<Words, OutOfMemory>
     Ok(words)
 }
 
-fn store(words: &mut Words, at: usize, value: u64)
+fn store(words: &mut Words, at: u64, value: u64)
     requires words { AreWords ONE_SEGMENT words.old }
     requires at { at < (data_region ONE_SEGMENT).from }
     ensures { AreWords ONE_SEGMENT words.new }
@@ -175,7 +175,7 @@ fn are_small(words: &Words) -> bool
     requires { AreWords ONE_SEGMENT words.now }
     ensures { IsTrue result → (k : ℕ) → k < (sizes_region ONE_SEGMENT).words → slice_index words.now ((sizes_region ONE_SEGMENT).from + k) ≤ 33 }
 {
-    let sizes = size_at(&ONE_SEGMENT, 0);
+    let sizes = size_at(&ONE_SEGMENT, 0) as usize;
     words.as_slice()[sizes..sizes + 65_536]
         .iter()
         .all(|word| *word <= 33)
@@ -189,6 +189,7 @@ fn could_cut(image: &mut Image, addr: u64, units: u16, unused: u8, busy: bool) -
     ensures told { AreTold image.new }
     ensures key { image.new.heads.key ≡ image.new.key }
     ensures descs { image.new.descs ≡ image.old.descs }
+    ensures region { image.new.region ≡ image.old.region }
     ensures limits { image.new.limits ≡ image.old.limits }
     ensures words { image.new.words ≡ image.old.words }
 {

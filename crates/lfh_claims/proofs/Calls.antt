@@ -13,7 +13,7 @@ use Rattle.heap_model.specs.Search.{begins_at}
 use Rattle.heap_model.specs.State.{Span, Place, Status, Live, InHand, live_size, has_address, updated, remove_found, change_found}
 use Rattle.heap_soundness.specs.Sound.{IsOneOf}
 use Rattle.heap_soundness.proofs.Lists.{all_at, all_from, all_removed, all_back, none_from, found_in, found_passes}
-use Rattle.claim_rule.specs.Places.{active_region, bitmaps_region, sizes_region, word_count}
+use Rattle.claim_rule.specs.Places.{active_region, bitmaps_region, sizes_region, word_count, data_region}
 use Rattle.claim_rule.specs.Shown.{flag, bitmap_word, size_word, starts_in, tag_of}
 use Rattle.lfh_buckets.specs.Blocks.{IsBucket}
 use Rattle.lfh_claims.specs.Kept.{LfhKept, LfhPart, StandsFor, IsSubsegment, IsBlockOf, no_part, size_at, with_active, HaveOwnStarts, with_places, without_block, with_size}
@@ -48,6 +48,8 @@ new_stands l v = record {
   sizes = λ k m. get_or-replicate (word_count l) (2182 + 1280 * l.segments + k) 0 0 (omega (arith, m, v.some_segments));
   tags = λ page m. get_or-replicate (word_count l) (2182 + page) 0 0 (omega (arith, m, v.some_segments));
   shown = λ b slot h g m. get_or-replicate (word_count l) (134 + 16 * (b - 1) + slot) 0 0 (omega (arith, h, g, m, v.some_segments));
+  contents = λ k m. get_or-replicate (word_count l) (2182 + 66816 * l.segments + k) 0 0 (omega (arith, m, v.some_segments));
+  quiet = λ i m. get_or-replicate (word_count l) i 0 0 (omega (arith, m, v.some_segments));
 }
 
 ---- The size of a block
@@ -115,6 +117,8 @@ active_stands k t b at bucket e h =
       sizes = outside k.words (sizes_region k.limits) (size_word t.places) at 1 (λ j l f. omega arith) h.sizes;
       tags = λ page l. other_word k.words at 1 (2182 + page) (λ f. omega arith) ∙ h.tags page l;
       shown = λ c slot l m n. other_word k.words at 1 (134 + 16 * (c - 1) + slot) (λ f. omega arith) ∙ h.shown c slot l m n;
+      contents = outside k.words (data_region k.limits) t.contents at 1 (λ j l f. omega arith) h.contents;
+      quiet = λ i l. other_word k.words at 1 i (λ f. omega arith) ∙ h.quiet i l;
     }
   where
     at_bucket : (n : ℕ) → n ≡ b → flag (updated t.active b true n) ≡ 1
@@ -146,6 +150,8 @@ size_stands k t addr size at p found room most e h =
           (subst (λ (n : ℕ). at < n) (sym h.as_long) (omega arith)) (sym here) (λ j l n. sym (elsewhere j n)) h.sizes;
       tags = λ page l. other_word k.words at (size + 1) (2182 + page) (λ f. omega arith) ∙ h.tags page l;
       shown = λ c slot l m n. other_word k.words at (size + 1) (134 + 16 * (c - 1) + slot) (λ f. omega arith) ∙ h.shown c slot l m n;
+      contents = outside k.words (data_region k.limits) t.contents at (size + 1) (λ j l f. omega arith) h.contents;
+      quiet = λ i l. other_word k.words at (size + 1) i (λ f. omega arith) ∙ h.quiet i l;
     }
   where
     s : Seat k t addr p
@@ -384,6 +390,10 @@ module _ (k : LfhKept) (t : LfhPart) (addr : ℕ) (p : Place) (h : StandsFor k t
           shown = λ c slot l m n.
               other_word words size_at 0 (134 + 16 * (c - 1) + slot) (λ f. omega (arith, l, m, n, f, behind))
               ∙ other_word k.words at v (134 + 16 * (c - 1) + slot) (λ f. omega (arith, l, m, n, f, behind_tags)) ∙ h.shown c slot l m n;
+          contents =
+              outside words (data_region k.limits) t.contents size_at 0 (λ j l f. omega (arith, f, size_is, s.at.granule))
+              (outside k.words (data_region k.limits) t.contents at v (λ j l f. omega (arith, f, in_bitmaps)) h.contents);
+          quiet = λ i l. other_word words size_at 0 i (λ f. omega (arith, l, f, behind)) ∙ other_word k.words at v i (λ f. omega (arith, l, f, behind_tags)) ∙ h.quiet i l;
         }
           where
             none_here : size_word others (addr / 16) ≡ 0

@@ -51,7 +51,7 @@ others_in_order low x (y ∷ ys) a = elim (cases_Bool (ltb x.first y.first)) [
     behind : AreInOrder low (y ∷ insert_span x ys) → (AreInOrder (y.first + y.pages) (insert_span x ys) → AreInOrder (y.first + y.pages) ys) → AreInOrder low (y ∷ ys)
     behind a again = (a.0, a.1, again a.2)
 
-module _ (l : Limits) (old new : Kept) (first b s : ℕ) (sound : IsSound new) (segments : new.region.segments ≡ l.segments)
+module _ (l : Limits) (old new : Kept) (first b s : ℕ) (sound : IsSound new) (segments : new.limits.segments ≡ l.segments)
     (area : area_of new ≡ with_span (with_segment (area_of old) first) (marked_span first (bucket_pages b) (lfh_mark b s)))
     (marks : taken_in new.words ≡ insert_run (marked_run first (bucket_pages b) (lfh_mark b s)) (taken_in old.words)) (some : 0 < bucket_pages b) where
   abbrev run : Run
@@ -86,7 +86,7 @@ module _ (l : Limits) (old new : Kept) (first b s : ℕ) (sound : IsSound new) (
         pages = refl;
         usable = omega (arith, u1);
         one_segment = o;
-        there = omega (arith, u0, o, r, segments);
+        there = omega (arith, u0, o, r, sound.segments, segments);
       }
 
   area_order : AreInOrder 0 (area_of new).spans
@@ -120,7 +120,7 @@ pages_some b = elim (cases_Bool (leb (block_size b) 256)) [
   ]
 ]
 
-pub made : (l : Limits) (old new : Kept) (first b s n : ℕ) (m : Mark) → n ≡ bucket_pages b → m ≡ lfh_mark b s → IsSound new → new.region.segments ≡ l.segments
+pub made : (l : Limits) (old new : Kept) (first b s n : ℕ) (m : Mark) → n ≡ bucket_pages b → m ≡ lfh_mark b s → IsSound new → new.limits.segments ≡ l.segments
     → area_of new ≡ with_span (with_segment (area_of old) first) (marked_span first n m) → taken_in new.words ≡ insert_run (marked_run first n m) (taken_in old.words)
     → (1 ≤ b) × (b ≤ 128) → s < l.slots → IsMade l old new first b s
 made l old new first b s n m e f sound segments area marks bucket slot =

@@ -12,7 +12,7 @@ use Rattle.heap_soundness.specs.Sound.{IsOneOf}
 use Rattle.search_laws.specs.Reading.{found_of, lfh_block}
 use Rattle.search_laws.specs.Calls.{lfh_span}
 use Rattle.heap_soundness.proofs.Lists.{all_at, all_from, none_at, found_in, found_passes}
-use Rattle.claim_rule.specs.Places.{active_region, bitmaps_region, sizes_region}
+use Rattle.claim_rule.specs.Places.{active_region, bitmaps_region, sizes_region, data_region}
 use Rattle.claim_rule.specs.Shown.{flag, bitmap_word, size_word}
 use Rattle.lfh_buckets.specs.Blocks.{IsBucket}
 use Rattle.lfh_buckets.proofs.BlockLemmas.{few_blocks, size_in_granules}
@@ -199,4 +199,8 @@ module _ (k : LfhKept) (t : LfhPart) (b first i size : ℕ) (h : StandsFor k t) 
       shown = λ c slot l m n.
           other_word words size_at (size + 1) (134 + 16 * (c - 1) + slot) (λ f. omega (arith, l, m, n, f, behind))
           ∙ other_word k.words at v (134 + 16 * (c - 1) + slot) (λ f. omega (arith, l, m, n, f, behind_tags)) ∙ h.shown c slot l m n;
+      contents =
+          outside words (data_region k.limits) t.contents size_at (size + 1) (λ j l f. omega (arith, f, size_is, home.granule))
+          (outside k.words (data_region k.limits) t.contents at v (λ j l f. omega (arith, f, in_bitmaps)) h.contents);
+      quiet = λ j l. other_word words size_at (size + 1) j (λ f. omega (arith, l, f, behind)) ∙ other_word k.words at v j (λ f. omega (arith, l, f, behind_tags)) ∙ h.quiet j l;
     }

@@ -17,7 +17,7 @@ use Rattle.heap_soundness.specs.Sound.{IsOneOf, AreInOrder}
 use Rattle.heap_soundness.proofs.Lists.{all_at, all_weaker, any_found}
 use Rattle.heap_soundness.proofs.GapRuns.{in_filtered, filtered_cases}
 use Rattle.heap_soundness.proofs.Spans.{above, in_inserted, all_inserted, made_in}
-use Rattle.claim_rule.specs.Places.{active_region, bitmaps_region, sizes_region}
+use Rattle.claim_rule.specs.Places.{active_region, bitmaps_region, sizes_region, data_region}
 use Rattle.claim_rule.specs.Shown.{flag, tag_of, bitmap_word, size_word}
 use Rattle.search_laws.specs.Calls.{hint_put}
 use Rattle.search_laws.proofs.Passes.{found_there}
@@ -123,6 +123,8 @@ module _ (l : Limits) (words : List ℕ) (t : LfhPart) (h : StandsFor (record { 
         sizes = outside words (sizes_region l) (size_word t.places) at first (λ j m f. omega (arith, f, at_is, b1, slot)) h.sizes;
         tags = λ page m. other_word words at first (2182 + page) (λ f. omega (arith, f, at_is, b1, slot)) ∙ h.tags page m;
         shown = shown;
+        contents = outside words (data_region l) t.contents at first (λ j m f. omega (arith, f, at_is, b1, slot)) h.contents;
+        quiet = λ j m. other_word words at first j (λ f. omega (arith, m, f, at_is, b0)) ∙ h.quiet j m;
       }
     where
       long : at < length words
@@ -316,4 +318,7 @@ module _ (l : Limits) (words new : List ℕ) (t : LfhPart) (h : StandsFor (recor
           ∙ h.sizes k m;
       tags = λ page m. other_word new at x.first (2182 + page) (λ f. omega (arith, f, at_is, b1, slots)) ∙ tags_after page m;
       shown = shown_after;
+      contents = λ k m.
+          other_word new at x.first (2182 + 66816 * l.segments + k) (λ f. omega (arith, f, at_is, b1, slots)) ∙ elsewhere (2182 + 66816 * l.segments + k) (inr (omega (arith, in_tags))) ∙ h.contents k m;
+      quiet = λ j m. other_word new at x.first j (λ f. omega (arith, m, f, at_is, b0)) ∙ elsewhere j (inl (omega (arith, m))) ∙ h.quiet j m;
     }

@@ -13,7 +13,7 @@ use Rattle.heap_model.specs.Search.{is_span_of, first_of, hint_or}
 use Rattle.heap_model.specs.Legal.{with_status}
 use Rattle.heap_soundness.specs.Sound.{IsOneOf, AreInOrder}
 use Rattle.search_laws.specs.Calls.{hint_put}
-use Rattle.claim_rule.specs.Places.{active_region, hints_region, tags_region, bitmaps_region, sizes_region, word_count}
+use Rattle.claim_rule.specs.Places.{active_region, hints_region, tags_region, bitmaps_region, sizes_region, data_region, word_count}
 use Rattle.claim_rule.specs.Shown.{AreShown, flag, tag_of, bitmap_word, size_word}
 
 -- what the code keeps
@@ -22,19 +22,20 @@ pub record LfhKept : Type 0 where
   pub words : List ℕ
 
 -- The front end of a state: its subsegments by place, the blocks in them, the span of the last place made under Back for each bucket and
--- slot, and the active buckets.
+-- slot, and the active buckets; and the data words, which stand in the same table.
 pub record LfhPart : Type 0 where
   pub spans : List Span
   pub places : List Place
   pub hints : ℕ → ℕ → Option ℕ
   pub active : ℕ → Bool
+  pub contents : ℕ → ℕ
 
 abbrev pub spans_for : LfhPart → ℕ → ℕ → List Span
 spans_for t b slot = filter (is_span_of b slot) t.spans
 
--- no subsegment, no block and no active bucket
+-- no subsegment, no block and no active bucket, and each data word 0
 abbrev pub no_part : LfhPart
-no_part = record { spans = []; places = []; hints = λ _ _. None; active = λ _. false }
+no_part = record { spans = []; places = []; hints = λ _ _. None; active = λ _. false; contents = λ _. 0 }
 
 -- the subsegment that the hint of a bucket and a slot names
 abbrev pub hint_of : LfhPart → ℕ → ℕ → Option ℕ
@@ -68,7 +69,8 @@ abbrev pub HaveOwnStarts : List Place → Type 0
 HaveOwnStarts [] = Unit {0}
 HaveOwnStarts (p ∷ ps) = AllByRecursion (λ q. p.start ≡ q.start → ⊥) ps × HaveOwnStarts ps
 
--- The words show the front end of a state, as the table of the heap has them.
+-- The words show the front end of a state and its data words, as the table of the heap has them. Those in front of them are 0: nobody uses
+-- the gate and the locks.
 pub record StandsFor (k : LfhKept) (t : LfhPart) : Type 0 where
   pub limits : AreValid k.limits
   pub in_order : AreInOrder 0 t.spans
@@ -82,6 +84,8 @@ pub record StandsFor (k : LfhKept) (t : LfhPart) : Type 0 where
   pub sizes : AreShown k.words (sizes_region k.limits) (size_word t.places)
   pub tags : AreShown k.words (tags_region k.limits) (λ page. unwrap_or (option_map tag_of (find (in_span page) t.spans)) 0)
   pub shown : (b slot : ℕ) → 1 ≤ b → b ≤ 128 → slot < 16 → slice_index k.words (hints_region.from + 16 * (b - 1) + slot) ≡ unwrap_or (hint_of t b slot) 0
+  pub contents : AreShown k.words (data_region k.limits) t.contents
+  pub quiet : (i : ℕ) → i < active_region.from → slice_index k.words i ≡ 0
 
 abbrev pub size_at : List Place → ℕ → Option ℕ
 size_at ps a = option_and_then (λ p. live_size p.status) (find (has_address a) ps)

@@ -26,7 +26,7 @@ pub record StandsIn (k : LfhKept) (a : Area) (t : LfhPart) : Type 0 where
 pub record AreOfOneHeap (k : LfhKept) (b : Kept) : Type 0 where
   pub part : LfhPart
   pub stands : StandsIn k (area_of b) part
-  pub segments : b.region.segments ≡ k.limits.segments
+  pub segments : b.limits.segments ≡ k.limits.segments
 
 ---- The search
 
@@ -64,23 +64,24 @@ pub record TakesInPass (old new : LfhKept) (before after : Kept) (t : LfhPart) (
 pub record TakesNewSpan (old new : LfhKept) (before after : Kept) (t : LfhPart) (g : SearchKey) (size addr first : ℕ) : Type 0 where
   pub at_hint_none : at_hint t g ≡ None
   pub in_pass_none : in_pass t g ≡ None
-  pub place : back_place (area_of before) before.region.segments (bucket_pages g.bucket) ≡ Some first
+  pub place : back_place (area_of before) before.limits.segments (bucket_pages g.bucket) ≡ Some first
   pub address : addr ≡ block_address g.bucket first (own_block g)
   pub area : area_of after ≡ with_span (with_segment (area_of before) first) (lfh_span first g.bucket g.slot)
   pub runs : taken_in after.words ≡ insert_run (lfh_run first g.bucket g.slot) (taken_in before.words)
-  pub segments : after.region.segments ≡ before.region.segments
+  pub segments : after.limits.segments ≡ before.limits.segments
   pub part : LfhPart
   pub spans : part.spans ≡ lfh_spans (area_of after)
   pub places : part.places ≡ lfh_block g.bucket size (found_of (lfh_span first g.bucket g.slot) (own_block g)) ∷ t.places
   pub hints : part.hints ≡ hint_put t.hints g.bucket g.slot first
   pub active : part.active ≡ t.active
+  pub contents : part.contents ≡ t.contents
   pub stands : StandsIn new (area_of after) part
 
 -- No subsegment has a free block and no range fits one more ..
 pub record FindsNone (before : Kept) (t : LfhPart) (g : SearchKey) : Type 0 where
   pub at_hint_none : at_hint t g ≡ None
   pub in_pass_none : in_pass t g ≡ None
-  pub place : back_place (area_of before) before.region.segments (bucket_pages g.bucket) ≡ None
+  pub place : back_place (area_of before) before.limits.segments (bucket_pages g.bucket) ≡ None
 
 -- .. and nothing changed.
 pub record TakesNone (old new : LfhKept) (before after : Kept) (t : LfhPart) (g : SearchKey) : Type 0 where

@@ -20,25 +20,17 @@ ghost use Rattle.heap_model.specs.Buckets.{block_size};
 ghost use Rattle.backend_fit.specs.Kept.{area_of};
 ghost use Rattle.lfh_claims.specs.Scan.{search_key};
 ghost use Rattle.lfh_claims.specs.Takes.{StandsIn, TakesOrNot};
-ghost use Rattle.heap_model.specs.Marks.{lfh_mark};
 ghost use Rattle.lfh_buckets.specs.Blocks.{IsBucket};
 ghost use Rattle.lfh_claims.specs.Kept.{LfhPart, StandsFor, no_part, HasBlock, HasRoom, size_at, without_block, with_size, with_active};
 
 use backend_fit::Back;
-use heap_model::{Kind, Limits, Mark, OutOfMemory};
+use heap_model::{GRANULE_BYTES, Limits, Mark, OutOfMemory, PAGE_BYTES, SEGMENT_GRANULES, Words};
 use lfh_buckets::{index_of, pages};
 use random_pick::Draw;
 use search::{BlockId, first_free, hinted, own_block, put, tag_pages, tag_start};
 use std::alloc::Global;
 use std::marker::Model;
-pub use table_words::Words;
-use table_words::{active_at, bitmap_at, hint_at, size_at as size_word_at, tag_at};
-
-/// The bytes of a page.
-const PAGE_BYTES: u64 = 4096;
-
-/// The granules of a segment.
-const GRANULES: u64 = 65_536;
+use table_words::{active_at, bitmap_at, hint_at, size_at as size_word_at, tag_at, words_of};
 
 /// The front end of one caller. Contracts see its limits and its words, and by `StandsFor` the subsegments, blocks, hints and
 /// active buckets of a state.
@@ -65,7 +57,7 @@ impl PlainLfh {
         ensures stands { IfOk result (λ p. StandsFor p no_part) }
         ensures limits { IfOk result (λ p. p.limits ≡ limits.now) }
     {
-        let words = Words::new(alloc, limits)?;
+        let words = words_of(alloc, limits)?;
         Ok(PlainLfh {
             limits: *limits,
             words,
@@ -76,11 +68,11 @@ impl PlainLfh {
     pub fn find(&self, addr: u64) -> Option<u64>
         ensures { (t : LfhPart) → StandsFor self.now t → result ≡ size_at t.places addr }
     {
-        let granules = GRANULES * u64::from(self.limits.segments);
-        if addr % 16 != 0 || addr / 16 >= granules {
+        let granules = u64::from(SEGMENT_GRANULES * self.limits.segments);
+        if addr % GRANULE_BYTES != 0 || addr / GRANULE_BYTES >= granules {
             return None;
         }
-        let at = size_word_at(&self.limits, (addr / 16) as u32);
+        let at = size_word_at(&self.limits, (addr / GRANULE_BYTES) as u32);
         let word = self.words.at(at);
         if word == 0 {
             return None;
@@ -111,7 +103,7 @@ impl PlainLfh {
         ensures stands { (t : LfhPart) → StandsFor self.old t → StandsFor self.new (with_size t addr size) }
         ensures limits { self.new.limits ≡ self.old.limits }
     {
-        let at = size_word_at(&self.limits, (addr / 16) as u32);
+        let at = size_word_at(&self.limits, (addr / GRANULE_BYTES) as u32);
         self.words.set(at, size + 1);
     }
 
@@ -131,7 +123,7 @@ impl PlainLfh {
         let word = self.words.at(at);
         self.words.set(at, word & !(1u64 << (index % 64)));
         self.words
-            .set(size_word_at(&self.limits, (addr / 16) as u32), 0);
+            .set(size_word_at(&self.limits, (addr / GRANULE_BYTES) as u32), 0);
     }
 
     /// A block of `size` bytes of a bucket, for the callers of a slot. It has the address of a drawn free block: of the
@@ -147,7 +139,7 @@ impl PlainLfh {
         requires bucket { IsBucket bucket }
         requires slot { slot < self.old.limits.slots }
         requires size { (size ≤ block_size bucket) × (size ≤ 16368) }
-        requires segments { back.old.region.segments ≡ self.old.limits.segments }
+        requires segments { back.old.limits.segments ≡ self.old.limits.segments }
         requires spans { (t : LfhPart) × StandsIn self.old (area_of back.old) t }
         ensures takes { (t : LfhPart) → StandsIn self.old (area_of back.old) t → TakesOrNot self.old self.new back.old back.new t (search_key bucket slot draw.value) size result }
         ensures limits { self.new.limits ≡ self.old.limits }
@@ -161,7 +153,7 @@ impl PlainLfh {
             return Some(put(&mut self.words, limits, bucket, block, size));
         }
         let pages = pages(bucket);
-        let head = back.take(pages, mark_of(bucket, slot))?;
+        let head = back.take(pages, Mark::lfh(bucket, slot))?;
         let _sound = back.region();
         let tag = tag_start(bucket, slot) + (u64::from(head) << 32);
         tag_pages(&mut self.words, limits, head, pages, tag);
@@ -169,17 +161,5 @@ impl PlainLfh {
         let index = own_block(bucket, draw);
         let block = BlockId { head, index };
         Some(put(&mut self.words, limits, bucket, block, size))
-    }
-}
-
-/// What the pages of a subsegment are marked as.
-fn mark_of(bucket: u8, slot: u8) -> Mark
-    ensures { result ≡ lfh_mark bucket slot }
-{
-    Mark {
-        kind: Kind::Lfh,
-        bucket,
-        slot,
-        unused: 0,
     }
 }

@@ -9,20 +9,14 @@ ghost use Rattle.lfh_claims.specs.Scan.{AreTagged, IsPass, IsAtHint, IsComing, s
 ghost use Rattle.table_words.specs.Told.{AreWords, bits_in};
 
 use claim_rule::TAGS;
-use heap_model::Limits;
+use heap_model::{GRANULE_BYTES, Limits, SEGMENT_PAGES, WORD_BITS, Words};
 use lane_scan::next_match;
 use lfh_buckets::{block_at, count, pages, valid_bits};
 use random_pick::{Draw, pick};
-use table_words::{Words, bitmap_at, hint_at, size_at, tag_at};
-
-/// The bits of a bitmap word.
-const WORD_BITS: u32 = 64;
+use table_words::{bitmap_at, hint_at, size_at, tag_at};
 
 /// The bits of a tag that tell the bucket and the slot.
 const TAG_MASK: u64 = 0xffff_ffff;
-
-/// The pages of a segment.
-const SEGMENT_PAGES: usize = 256;
 
 /// A block of a subsegment, by the first page and the number.
 #[derive(Clone, Copy, Debug, PartialEq, Eq)]
@@ -92,7 +86,7 @@ pub fn first_free(
     requires slot { slot < 16 }
     ensures { IsPass limits.now words.now (search_key bucket slot draw.value) result }
 {
-    let tags = &words.as_slice()[TAGS..TAGS + SEGMENT_PAGES * limits.segments as usize];
+    let tags = &words.as_slice()[TAGS..TAGS + (SEGMENT_PAGES * limits.segments) as usize];
     let tag = tag_start(bucket, slot);
     let step = pages(bucket) as usize;
     let mut from = 0;
@@ -127,7 +121,7 @@ pub fn put(words: &mut Words, limits: &Limits, bucket: u8, block: BlockId, size:
     let at = bitmap_at(limits, block.head, u32::from(block.index) / WORD_BITS);
     let bits = words.at(at);
     words.set(at, bits | 1u64 << (u32::from(block.index) % WORD_BITS));
-    words.set(size_at(limits, (addr / 16) as u32), size + 1);
+    words.set(size_at(limits, (addr / GRANULE_BYTES) as u32), size + 1);
     addr
 }
 

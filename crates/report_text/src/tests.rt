@@ -7,7 +7,7 @@ ghost use Rattle.vs_split.specs.Laws.{IsRow};
 ghost use Rattle.layout_decode.specs.Decode.{AreTold, IsReadable};
 
 use crate::{Answers, report};
-use heap_model::{Kind, Limits, Mark, OutOfMemory, Reply};
+use heap_model::{Kind, Limits, Mark, OutOfMemory, Reply, Words};
 use layout_decode::Image;
 use page_ranges::{Descs, FREE};
 use page_region::Region;
@@ -15,7 +15,7 @@ use script_text::read_script;
 use std::alloc::Global;
 use std::process::Abort;
 use std::test::Fail;
-use table_words::{Words, bitmap_at, size_at};
+use table_words::{bitmap_at, size_at, words_of};
 use vs_split::Heads;
 
 /// The key of the heap whose seed is 42.
@@ -56,7 +56,6 @@ const SUBSEGMENT: Mark = Mark {
 /// of 2 granules, a gap of 3, a place of 5, and a gap.
 fn three_blocks<R: Abort>(rt: &R, alloc: Global) -> Result<Image, OutOfMemory>
     ensures readable { IfOk result (λ image. IsReadable image) }
-    ensures same { IfOk result (λ image. length image.descs ≡ 256 * image.region.segments) }
 {
     let region = one_committed(alloc)?;
     let mut heads = Heads::new(alloc, &ONE_SEGMENT, KEY)?;
@@ -85,7 +84,6 @@ fn three_blocks<R: Abort>(rt: &R, alloc: Global) -> Result<Image, OutOfMemory>
 /// One segment, with a subsegment on the page behind its header, and a block on the 33 pages behind that.
 fn two_small_blocks<R: Abort>(rt: &R, alloc: Global) -> Result<Image, OutOfMemory>
     ensures readable { IfOk result (λ image. IsReadable image) }
-    ensures same { IfOk result (λ image. length image.descs ≡ 256 * image.region.segments) }
 {
     let region = one_committed(alloc)?;
     let heads = Heads::new(alloc, &ONE_SEGMENT, KEY)?;
@@ -110,7 +108,7 @@ fn two_small_blocks<R: Abort>(rt: &R, alloc: Global) -> Result<Image, OutOfMemor
 fn empty_words(alloc: Global) -> Result<Words, OutOfMemory>
     ensures { IfOk result (AreWords ONE_SEGMENT) }
 {
-    Words::new(alloc, &ONE_SEGMENT)
+    words_of(alloc, &ONE_SEGMENT)
 }
 
 /// The words of the subsegment. The bits are those of blocks 0, 5 and 64, and block 5 is in hand: it has no size yet.
@@ -125,7 +123,7 @@ fn words_of_two_blocks(alloc: Global) -> Result<Words, OutOfMemory>
     Ok(words)
 }
 
-fn store(words: &mut Words, at: usize, value: u64)
+fn store(words: &mut Words, at: u64, value: u64)
     requires words { AreWords ONE_SEGMENT words.old }
     requires at { at < (data_region ONE_SEGMENT).from }
     ensures { AreWords ONE_SEGMENT words.new }
@@ -139,7 +137,7 @@ fn are_small(words: &Words) -> bool
     ensures { IsTrue result → (k : ℕ) → k < (sizes_region ONE_SEGMENT).words
         → slice_index words.now ((sizes_region ONE_SEGMENT).from + k) ≤ 33 }
 {
-    let sizes = size_at(&ONE_SEGMENT, 0);
+    let sizes = size_at(&ONE_SEGMENT, 0) as usize;
     words.as_slice()[sizes..sizes + 65_536]
         .iter()
         .all(|word| *word <= 33)

@@ -1,5 +1,6 @@
 use Rattle.std.proofs.Common.{◌≡◌, ℕ, length, refl, ap, ◌∙◌, arith}
 use Rattle.std.proofs.lemmas.List.{length-replicate}
+use Rattle.page_region.specs.Held.{Held}
 use Rattle.heap_model.specs.declared.Kind.TheVariants as kinds
 use Rattle.heap_model.specs.declared.Limits.{Limits}
 use Rattle.heap_model.specs.declared.Run.{Run}
@@ -43,5 +44,7 @@ returns g c =
         subsegments = rw runs (tt, (tt, (subsegment image.limits refl, (tt, (tt, tt)))));
         fits = rw runs (tt, (tt, (fits, (tt, (tt, tt)))));
         words = c.in_ok-words.ensures;
+        segments = ap (λ (h : Held). h.segments) c.in_ok-region.ensures;
+        pages = len;
       };
     }

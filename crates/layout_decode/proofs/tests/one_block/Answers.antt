@@ -1,6 +1,7 @@
 use Rattle.std.proofs.Common.{◌≡◌, ℕ, ◌<◌, inl, List, [], ◌∷◌, length, refl, ap, ◌∙◌, arith, get_or}
 use Rattle.std.proofs.lemmas.List.{length-replicate}
 use Rattle.heap_model.specs.declared.Mark.{Mark}
+use Rattle.page_region.specs.Held.{Held}
 use Rattle.heap_model.specs.declared.Run.{Run}
 use Rattle.page_ranges.specs.Words.{header_run}
 use Rattle.page_ranges.specs.Ranges.{AreRuns, IsMarked, opened_runs}
@@ -49,5 +50,7 @@ returns c =
         subsegments = rw only (tt, (tt, (tt, (tt, tt))));
         fits = rw only (tt, (tt, (tt, (tt, tt))));
         words = c.in_ok-words.ensures;
+        segments = ap (λ (h : Held). h.segments) c.in_ok-region.ensures;
+        pages = len;
       };
     }

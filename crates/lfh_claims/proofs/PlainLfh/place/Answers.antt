@@ -1,5 +1,6 @@
 use Rattle.std.proofs.Common.{◌≡◌, ℕ, List, ◌+◌, ◌*◌, ◌<◌, ◌∷◌, refl, ap, sym, subst, ◌∙◌, arith}
 use Rattle.std.specs.Prelude.{slice_set}
+use Rattle.heap_model.specs.declared.Limits.{Limits}
 use Rattle.heap_model.specs.Buckets.{block_address, block_count, bucket_pages}
 use Rattle.heap_model.specs.State.{insert_span}
 use Rattle.heap_model.specs.Backend.{back_place}
@@ -115,15 +116,15 @@ returns-in-Some-first_free-clause-takes c =
 pub tag_pages-requires-clause-pages : goal.tag_pages-requires-clause-pages
 tag_pages-requires-clause-pages c =
     let slot = subst (λ k. c.args.slot < k.limits.slots) (sym c.self.view_is) c.requires.slot in
-    let segments = c.in_ok-head.ensures.segments ∙ c.requires.segments ∙ sym (ap (λ k. k.limits.segments) c.self.view_is) in
-    let m : IsMade c.self.inside.limits c.args.back.now c.take.new.self c.in_ok-head.head c.args.bucket c.args.slot = made c.self.inside.limits c.args.back.now c.take.new.self c.in_ok-head.head c.args.bucket c.args.slot c.pages-pages.result c.mark_of.result c.pages-pages.ensures c.mark_of.ensures c.region-sound.ensures.sound segments c.in_ok-head.ensures.area c.in_ok-head.ensures.marks (c.requires.bucket.first, c.requires.bucket.last) slot in
+    let segments = ap (λ (l : Limits). l.segments) c.in_ok-head.ensures.limits ∙ c.requires.segments ∙ sym (ap (λ k. k.limits.segments) c.self.view_is) in
+    let m : IsMade c.self.inside.limits c.args.back.now c.take.new.self c.in_ok-head.head c.args.bucket c.args.slot = made c.self.inside.limits c.args.back.now c.take.new.self c.in_ok-head.head c.args.bucket c.args.slot c.pages-pages.result c.lfh.result c.pages-pages.ensures c.lfh.ensures c.region-sound.ensures.sound segments c.in_ok-head.ensures.area c.in_ok-head.ensures.spans (c.requires.bucket.first, c.requires.bucket.last) slot in
     let a = m.sub.there in omega (arith, a, c.pages-pages.ensures)
 
 pub put-requires-2-clause-head : goal.put-requires-2-clause-head
 put-requires-2-clause-head c =
     let slot = subst (λ k. c.args.slot < k.limits.slots) (sym c.self.view_is) c.requires.slot in
-    let segments = c.in_ok-head.ensures.segments ∙ c.requires.segments ∙ sym (ap (λ k. k.limits.segments) c.self.view_is) in
-    let m : IsMade c.self.inside.limits c.args.back.now c.take.new.self c.in_ok-head.head c.args.bucket c.args.slot = made c.self.inside.limits c.args.back.now c.take.new.self c.in_ok-head.head c.args.bucket c.args.slot c.pages-pages.result c.mark_of.result c.pages-pages.ensures c.mark_of.ensures c.region-sound.ensures.sound segments c.in_ok-head.ensures.area c.in_ok-head.ensures.marks (c.requires.bucket.first, c.requires.bucket.last) slot in
+    let segments = ap (λ (l : Limits). l.segments) c.in_ok-head.ensures.limits ∙ c.requires.segments ∙ sym (ap (λ k. k.limits.segments) c.self.view_is) in
+    let m : IsMade c.self.inside.limits c.args.back.now c.take.new.self c.in_ok-head.head c.args.bucket c.args.slot = made c.self.inside.limits c.args.back.now c.take.new.self c.in_ok-head.head c.args.bucket c.args.slot c.pages-pages.result c.lfh.result c.pages-pages.ensures c.lfh.ensures c.region-sound.ensures.sound segments c.in_ok-head.ensures.area c.in_ok-head.ensures.spans (c.requires.bucket.first, c.requires.bucket.last) slot in
     m.sub.there
 
 pub put-requires-2-clause-index : goal.put-requires-2-clause-index
@@ -137,8 +138,8 @@ invariant_of-self-2 c =
     let h : StandsFor (record { limits = c.self.inside.limits; words = c.self.inside.words }) t = subst (λ k. StandsFor k t) (sym c.self.view_is) c.requires.spans.1.stands in
     let t_spans = c.requires.spans.1.spans in
     let slot = subst (λ k. c.args.slot < k.limits.slots) (sym c.self.view_is) c.requires.slot in
-    let segments = c.in_ok-head.ensures.segments ∙ c.requires.segments ∙ sym (ap (λ k. k.limits.segments) c.self.view_is) in
-    let m : IsMade c.self.inside.limits c.args.back.now c.take.new.self c.in_ok-head.head c.args.bucket c.args.slot = made c.self.inside.limits c.args.back.now c.take.new.self c.in_ok-head.head c.args.bucket c.args.slot c.pages-pages.result c.mark_of.result c.pages-pages.ensures c.mark_of.ensures c.region-sound.ensures.sound segments c.in_ok-head.ensures.area c.in_ok-head.ensures.marks (c.requires.bucket.first, c.requires.bucket.last) slot in
+    let segments = ap (λ (l : Limits). l.segments) c.in_ok-head.ensures.limits ∙ c.requires.segments ∙ sym (ap (λ k. k.limits.segments) c.self.view_is) in
+    let m : IsMade c.self.inside.limits c.args.back.now c.take.new.self c.in_ok-head.head c.args.bucket c.args.slot = made c.self.inside.limits c.args.back.now c.take.new.self c.in_ok-head.head c.args.bucket c.args.slot c.pages-pages.result c.lfh.result c.pages-pages.ensures c.lfh.ensures c.region-sound.ensures.sound segments c.in_ok-head.ensures.area c.in_ok-head.ensures.spans (c.requires.bucket.first, c.requires.bucket.last) slot in
     let order : AreInOrder 0 (insert_span (lfh_span c.in_ok-head.head c.args.bucket c.args.slot) t.spans) = subst (λ ys. AreInOrder 0 (insert_span (lfh_span c.in_ok-head.head c.args.bucket c.args.slot) ys)) (sym t_spans) m.order in
     let at_is : c.hint_at-2.result ≡ 118 + 16 * c.args.bucket + c.args.slot = omega (arith, c.hint_at-2.ensures) in
     let there = m.sub.there in
@@ -157,8 +158,8 @@ returns-clause-takes c =
     let h : StandsFor (record { limits = c.self.inside.limits; words = c.self.inside.words }) t = subst (λ k. StandsFor k t) (sym c.self.view_is) r.stands in
     let t_spans = r.spans in
     let slot = subst (λ k. c.args.slot < k.limits.slots) (sym c.self.view_is) c.requires.slot in
-    let segments = c.in_ok-head.ensures.segments ∙ c.requires.segments ∙ sym (ap (λ k. k.limits.segments) c.self.view_is) in
-    let m : IsMade c.self.inside.limits c.args.back.now c.take.new.self c.in_ok-head.head c.args.bucket c.args.slot = made c.self.inside.limits c.args.back.now c.take.new.self c.in_ok-head.head c.args.bucket c.args.slot c.pages-pages.result c.mark_of.result c.pages-pages.ensures c.mark_of.ensures c.region-sound.ensures.sound segments c.in_ok-head.ensures.area c.in_ok-head.ensures.marks (c.requires.bucket.first, c.requires.bucket.last) slot in
+    let segments = ap (λ (l : Limits). l.segments) c.in_ok-head.ensures.limits ∙ c.requires.segments ∙ sym (ap (λ k. k.limits.segments) c.self.view_is) in
+    let m : IsMade c.self.inside.limits c.args.back.now c.take.new.self c.in_ok-head.head c.args.bucket c.args.slot = made c.self.inside.limits c.args.back.now c.take.new.self c.in_ok-head.head c.args.bucket c.args.slot c.pages-pages.result c.lfh.result c.pages-pages.ensures c.lfh.ensures c.region-sound.ensures.sound segments c.in_ok-head.ensures.area c.in_ok-head.ensures.spans (c.requires.bucket.first, c.requires.bucket.last) slot in
     let order : AreInOrder 0 (insert_span (lfh_span c.in_ok-head.head c.args.bucket c.args.slot) t.spans) = subst (λ ys. AreInOrder 0 (insert_span (lfh_span c.in_ok-head.head c.args.bucket c.args.slot) ys)) (sym t_spans) m.order in
     let at_is : c.hint_at-2.result ≡ 118 + 16 * c.args.bucket + c.args.slot = omega (arith, c.hint_at-2.ensures) in
     let there = m.sub.there in
@@ -171,15 +172,16 @@ returns-clause-takes c =
     NewSpan c.in_ok-head.head (record {
       at_hint_none = none_found (at_hint t (search_key c.args.bucket c.args.slot c.args.draw.value)) (sym c.in_default.is ∙ c.hinted.ensures t h);
       in_pass_none = none_found (in_pass t (search_key c.args.bucket c.args.slot c.args.draw.value)) (sym c.in_default-first_free.is ∙ c.first_free.ensures t h);
-      place = sym (c.in_ok-head.ensures.place ∙ ap (back_place (area_of c.args.back.now) c.args.back.now.region.segments) c.pages-pages.ensures);
+      place = sym (c.in_ok-head.ensures.place ∙ ap (back_place (area_of c.args.back.now) c.args.back.now.limits.segments) c.pages-pages.ensures);
       address = c.put-2.ensures.address ∙ ap (block_address c.args.bucket c.in_ok-head.head) c.own_block-index.ensures;
       area = m.area;
       runs = m.runs;
-      segments = c.in_ok-head.ensures.segments;
+      segments = ap (λ (l : Limits). l.segments) c.in_ok-head.ensures.limits;
       part = with_block u (block_of c.args.bucket c.in_ok-head.head c.own_block-index.result c.args.size);
       spans = ap (insert_span (lfh_span c.in_ok-head.head c.args.bucket c.args.slot)) t_spans ∙ sym m.spans;
       places = ap (λ (n : ℕ). block_of c.args.bucket c.in_ok-head.head n c.args.size ∷ t.places) c.own_block-index.ensures;
       hints = refl;
       active = refl;
+      contents = refl;
       stands = record { stands = subst (λ (ws : List ℕ). StandsFor (record { limits = c.self.inside.limits; words = ws }) (with_block u (block_of c.args.bucket c.in_ok-head.head c.own_block-index.result c.args.size))) (sym c.put-2.ensures.words) (puts c.self.inside.limits c.set-2.new.self u k c.args.bucket c.args.slot c.args.draw.value c.requires.bucket S c.args.size c.requires.size.0 c.requires.size.1 c.in_ok-head.head c.own_block-index.result g); spans = ap (insert_span (lfh_span c.in_ok-head.head c.args.bucket c.args.slot)) t_spans ∙ sym m.spans };
     })

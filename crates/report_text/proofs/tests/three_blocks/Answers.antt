@@ -30,6 +30,7 @@ returns-clause-readable g c =
     let words = c.mark-3.new.self in
     let same : image.descs ≡ words = c.could_cut-3.ensures.descs ∙ c.could_cut-2.ensures.descs ∙ c.could_cut.ensures.descs in
     let limits : image.limits ≡ ONE_SEGMENT = c.could_cut-3.ensures.limits ∙ c.could_cut-2.ensures.limits ∙ c.could_cut.ensures.limits in
+    let region : image.region ≡ c.in_ok-region.region = c.could_cut-3.ensures.region ∙ c.could_cut-2.ensures.region ∙ c.could_cut.ensures.region in
     let table : image.words ≡ c.in_ok-words.words = c.could_cut-3.ensures.words ∙ c.could_cut-2.ensures.words ∙ c.could_cut.ensures.words in
     let len : length words ≡ 256 =
     c.mark-3.ensures.marked.same_length ∙ c.mark-2.ensures.marked.same_length ∙ c.mark.ensures.marked.same_length ∙ c.open_segment.ensures.marked.same_length ∙ ap length c.in_ok-descs.ensures.words ∙ length-replicate {A = ℕ} 256 0 in
@@ -43,14 +44,6 @@ returns-clause-readable g c =
       subsegments = rw (same, runs) (tt, (tt, (tt, (tt, (tt, tt)))));
       fits = rw (same, runs) (tt, (tt, (tt, (tt, (tt, tt)))));
       words = rw (limits, table) c.in_ok-words.ensures;
+      segments = ap (λ (h : Held). h.segments) region ∙ c.in_ok-region.ensures ∙ sym (ap (λ (l : Limits). l.segments) limits);
+      pages = ap length same ∙ len ∙ sym (ap (λ (l : Limits). 256 * l.segments) limits);
     }
-
-pub returns-clause-same : goal.returns-clause-same
-returns-clause-same g c =
-    let image = c.could_cut-3.new.image in
-    let words = c.mark-3.new.self in
-    let same : image.descs ≡ words = c.could_cut-3.ensures.descs ∙ c.could_cut-2.ensures.descs ∙ c.could_cut.ensures.descs in
-    let region : image.region ≡ c.in_ok-region.region = c.could_cut-3.ensures.region ∙ c.could_cut-2.ensures.region ∙ c.could_cut.ensures.region in
-    let len : length words ≡ 256 =
-    c.mark-3.ensures.marked.same_length ∙ c.mark-2.ensures.marked.same_length ∙ c.mark.ensures.marked.same_length ∙ c.open_segment.ensures.marked.same_length ∙ ap length c.in_ok-descs.ensures.words ∙ length-replicate {A = ℕ} 256 0 in
-    omega (arith, len, ap (length {A = ℕ}) same, ap (λ (h : Held). h.segments) region, c.in_ok-region.ensures)

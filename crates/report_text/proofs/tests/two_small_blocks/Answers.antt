@@ -42,11 +42,6 @@ returns-clause-readable g c =
       subsegments = rw runs (tt, (tt, (subsegment image.limits refl, (tt, (tt, tt)))));
       fits = rw runs (tt, (tt, (fits, (tt, (tt, tt)))));
       words = c.in_ok-words.ensures;
+      segments = c.in_ok-region.ensures;
+      pages = len;
     }
-
-pub returns-clause-same : goal.returns-clause-same
-returns-clause-same g c =
-    let words = c.mark-3.new.self in
-    let len : length words ≡ 256 =
-    c.mark-3.ensures.marked.same_length ∙ c.mark-2.ensures.marked.same_length ∙ c.mark.ensures.marked.same_length ∙ c.open_segment.ensures.marked.same_length ∙ ap length c.in_ok-descs.ensures.words ∙ length-replicate {A = ℕ} 256 0 in
-    omega (arith, len, c.in_ok-region.ensures)
