@@ -171,7 +171,7 @@ module _ (h : LoneHeap) (m : Configuration) (st : Stands h m) where
   ---- Its area
 
   -- where the back end has a range, the configuration has it
-  pub same_range : (pages : ℕ) (o : Option ℕ) → back_place (area_of h.back) h.back.region.segments pages ≡ o → back_place m.state.back.area h.limits.segments pages ≡ o
+  pub same_range : (pages : ℕ) (o : Option ℕ) → back_place (area_of h.back) h.back.limits.segments pages ≡ o → back_place m.state.back.area h.limits.segments pages ≡ o
   same_range pages o e =
       ap (λ (a : Area). back_place a h.limits.segments pages) st.area ∙ ap (λ (q : ℕ). back_place (area_of h.back) q pages) (sym st.segments) ∙ e
 

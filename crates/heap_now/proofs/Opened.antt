@@ -57,7 +57,7 @@ module _ (old new : Kept) (first pages : ℕ) (sound : IsSound new) (runs : take
   used : (k : ℕ) → k < pages → is_usable_in new.region.reserved (first + k) ≡ true
   used k l = all_at (IsUsed new.region.reserved) (vs_run first pages) (runs_of new.words) sound.used there k l
 
-  pub span_pages : (v : Chunks) → length v.heads ≡ 65536 * old.region.segments → new.region.segments ≡ old.region.segments → 16 ≤ pages → pages ≤ 33 → AreSpanPages v first pages
+  pub span_pages : (v : Chunks) → length v.heads ≡ 65536 * old.limits.segments → new.limits.segments ≡ old.limits.segments → 16 ≤ pages → pages ≤ 33 → AreSpanPages v first pages
   span_pages v g s least most =
       let front = leb-true 2 ((first + 0) % 256) (and_parts (ltb ((first + 0) / 256) new.region.reserved) _ (used 0 (omega arith))).1 in
       let end = ends_inside new.words 0 (length new.words) (runs_of new.words) (vs_run first pages) sound.whole there in

@@ -22,7 +22,8 @@ use Rattle.vs_layer.specs.Effects.{nothing_kept}
 use Rattle.lfh_claims.specs.Kept.{LfhKept, StandsFor, no_part}
 use Rattle.backend_fit.specs.Kept.{is_block_run}
 use Rattle.heap_now.specs.Standing.{LoneHeap, Stands, HasHistory}
-use Rattle.backend_fit.specs.Kept.{place_of, IsBlockRun}
+use Rattle.backend_fit.specs.Effects.{place_of}
+use Rattle.heap_now.specs.Standing.{IsFilledRun}
 
 -- no chunk, no block
 abbrev no_head : Option Head
@@ -43,8 +44,8 @@ pub record AreMade (limits : Limits) (seed : ℕ) (kept : Kept) (vs : VsKept) (l
   pub valid : AreValid limits
   pub area : area_of kept ≡ record { reserved = 0; committed = λ _. false; spans = [] }
   pub taken : taken_in kept.words ≡ []
-  pub segments : kept.region.segments ≡ limits.segments
-  pub vs_is : vs ≡ nothing_kept limits.segments (key_of seed)
+  pub segments : kept.limits.segments ≡ limits.segments
+  pub vs_is : vs ≡ nothing_kept limits (key_of seed)
   pub front : StandsFor lfh no_part
   pub front_limits : lfh.limits ≡ limits
   pub draws : generator ≡ started 64 multiplier_64 seed (increment_of 64 0)
@@ -56,7 +57,7 @@ pub opens : (limits : Limits) (seed : ℕ) (kept : Kept) (vs : VsKept) (lfh : Lf
     Stands (heap_from limits seed kept vs lfh generator) first_configuration
 opens limits seed kept vs lfh generator a = subst (λ (v : VsKept). Stands (heap_from limits seed kept v lfh generator) first_configuration) (sym a.vs_is) stands
   where
-    stands : Stands (heap_from limits seed kept (nothing_kept limits.segments (key_of seed)) lfh generator) first_configuration
+    stands : Stands (heap_from limits seed kept (nothing_kept limits (key_of seed)) lfh generator) first_configuration
     stands = record {
       limits = a.valid;
       segments = a.segments;
@@ -64,7 +65,7 @@ opens limits seed kept vs lfh generator a = subst (λ (v : VsKept). Stands (heap
       reached = record { entries = []; legal = refl; leads = refl };
       area = sym a.area;
       places = sym (ap (λ (rs : List Run). map place_of (filter is_block_run rs)) a.taken);
-      blocks = subst (λ (rs : List Run). AllByRecursion IsBlockRun (filter is_block_run rs)) (sym a.taken) tt;
+      blocks = subst (λ (rs : List Run). AllByRecursion IsFilledRun (filter is_block_run rs)) (sym a.taken) tt;
       vs_spans_are = refl;
       vs_places = sym (none_from 0 (65536 * limits.segments));
       active = fun_ext (λ b. sym (same_all 129 b false));

@@ -9,7 +9,7 @@ use Rattle.heap_model.specs.declared.Kind.TheVariants as kinds
 use Rattle.heap_model.specs.declared.Limits.{Limits}
 use Rattle.heap_model.specs.declared.Run.{Run}
 use Rattle.heap_model.specs.Runs as model
-use Rattle.heap_model.specs.State.{Area, Span, Place, is_kind, live_size}
+use Rattle.heap_model.specs.State.{Area, GateAndLocks, Span, Place, is_kind, live_size, open_locks}
 use Rattle.heap_model.specs.Backend.{free_runs}
 use Rattle.heap_model.specs.Ranges.{gaps_of, vs_spans}
 use Rattle.heap_model.specs.CallState.{Configuration}
@@ -25,6 +25,9 @@ use Rattle.page_ranges.proofs.Blocks.{taken_rise}
 use Rattle.backend_fit.specs.Pages.{taken_in}
 use Rattle.backend_fit.specs.Sound.{IsSound}
 use Rattle.backend_fit.proofs.Segment.{frees_of}
+use Rattle.backend_fit.proofs.Sounds.{pages_sound}
+use Rattle.claim_rule.specs.Places.{data_region}
+use Rattle.claim_rule.specs.Shown.{AreShown, GateShown}
 use Rattle.vs_headers.specs.declared.Head.{Head}
 use Rattle.vs_headers.specs.Headers.{encoded, key_of}
 use Rattle.vs_split.specs.Chunks.{head_at}
@@ -33,9 +36,8 @@ use Rattle.vs_layer.specs.Kept.{places_of}
 use Rattle.vs_layer.specs.Effects.{ShowsChunks}
 use Rattle.lfh_claims.specs.Kept.{spans_for}
 use Rattle.layout_decode.specs.Shows.{Shows, ShowsFront, IsHintOf, run_of_span, unused_in}
-use Rattle.backend_fit.specs.Kept.{is_block_run, block_runs, is_block_at}
-use Rattle.heap_now.specs.Standing.{LoneHeap, setting_of, front_of, Stands}
-use Rattle.backend_fit.specs.Kept.{IsBlockRun}
+use Rattle.backend_fit.specs.Kept.{pages_in, is_block_run, block_runs, is_block_at}
+use Rattle.heap_now.specs.Standing.{LoneHeap, setting_of, front_of, IsFilledRun, Stands}
 use Rattle.heap_now.proofs.ByPlace.{gaps_sorted, one_start, one_end}
 use Rattle.backend_fit.proofs.OfKind.{filter_rising}
 use Rattle.backend_fit.proofs.Rising.{is_at}
@@ -49,17 +51,17 @@ abbrev IsFoundIn : List Run → Run → Type 0
 IsFoundIn rs q = find (is_block_at (4096 * q.first)) rs ≡ Some q
 
 -- a run in front does not hide those behind
-behind_found : (r : Run) (rs : List Run) (from : ℕ) (qs : List Run) → AreRising from qs → r.first < from → IsBlockRun r → AllByRecursion (IsFoundIn rs) qs → AllByRecursion (IsFoundIn (r ∷ rs)) qs
+behind_found : (r : Run) (rs : List Run) (from : ℕ) (qs : List Run) → AreRising from qs → r.first < from → IsFilledRun r → AllByRecursion (IsFoundIn rs) qs → AllByRecursion (IsFoundIn (r ∷ rs)) qs
 behind_found r rs from [] a l b h = tt
 behind_found r rs from (q ∷ qs) a l b h =
-    let e : is_block_at (4096 * q.first) r ≡ false = is_at (4096 * q.first) r b ∙ ne_eqb (4096 * r.first) (4096 * q.first) (λ k. omega (arith, k, a.0, l)) in
+    let e : is_block_at (4096 * q.first) r ≡ false = is_at (4096 * q.first) r (record { kind = b.kind }) ∙ ne_eqb (4096 * r.first) (4096 * q.first) (λ k. omega (arith, k, a.0, l)) in
     (rw e h.0, behind_found r rs (q.first + q.pages) qs a.2 (omega (arith, a.0, l)) b h.1)
 
 -- each block is found at its address
-all_found : (from : ℕ) (rs : List Run) → AreRising from rs → AllByRecursion IsBlockRun rs → AllByRecursion (IsFoundIn rs) rs
+all_found : (from : ℕ) (rs : List Run) → AreRising from rs → AllByRecursion IsFilledRun rs → AllByRecursion (IsFoundIn rs) rs
 all_found from [] a b = tt
 all_found from (r ∷ rs) a b =
-    let e : is_block_at (4096 * r.first) r ≡ true = is_at (4096 * r.first) r b.0 ∙ eq-eqb (4096 * r.first) (4096 * r.first) refl in
+    let e : is_block_at (4096 * r.first) r ≡ true = is_at (4096 * r.first) r (record { kind = b.0.kind }) ∙ eq-eqb (4096 * r.first) (4096 * r.first) refl in
     (rw e refl, behind_found r rs (r.first + r.pages) rs a.2 (omega (arith, a.1)) b.0 (all_found (r.first + r.pages) rs a.2 b.1))
 
 -- the marks of spans are marks
@@ -117,6 +119,21 @@ module _ (h : LoneHeap) (m : Configuration) (st : Stands h m) where
     sizes = st.front.sizes;
   })
 
+  -- nobody has entered and no lock is held
+  gate_shown : GateShown m.state.gate h.lfh.words
+  gate_shown =
+      let rest : m.state.gate ≡ no_one = ap (λ (n : Configuration). n.state.gate) st.at_rest.rest in
+      subst (λ (f : GateAndLocks). GateShown f h.lfh.words) (sym rest) (record {
+        gate = st.front.quiet 1 (omega arith);
+        lfh = st.front.quiet 2 (omega arith);
+        vs = st.front.quiet 3 (omega arith);
+        back = st.front.quiet 4 (omega arith);
+        large = st.front.quiet 5 (omega arith);
+      })
+    where
+      no_one : GateAndLocks
+      no_one = record { counted = []; turning = []; owner = None; locks = open_locks }
+
 ---- The image
 
 module _ (h : LoneHeap) (m : Configuration) (st : Stands h m) (sound : IsSound h.back) (chunks : ShowsChunks h.vs) where
@@ -131,7 +148,7 @@ module _ (h : LoneHeap) (m : Configuration) (st : Stands h m) (sound : IsSound h
   run_is r i mark = ap (λ (u : ℕ). record { first = r.first; pages = r.pages; mark = record { kind = r.mark.kind; bucket = r.mark.bucket; slot = r.mark.slot; unused = u } }) (elim (cases_Bool (is_block_run r)) [
     | inl e ↦
         let j = in_filtered is_block_run r (taken_in h.back.words) e i in
-        let b = all_at IsBlockRun r blocks st.blocks j in
+        let b = all_at IsFilledRun r blocks st.blocks j in
         let place = place_found h m st sound (4096 * r.first) r (all_at (IsFoundIn blocks) r blocks found j) in
         let size : 4096 * r.pages - (4096 * r.pages - r.mark.unused) ≡ r.mark.unused = omega (arith, b.unused) in
         ap (unused_in m.state.back.places (span_of r)) b.kind
@@ -160,16 +177,21 @@ module _ (h : LoneHeap) (m : Configuration) (st : Stands h m) (sound : IsSound h
   shows = record {
     limits = refl;
     key = refl;
+    segments = sound.segments ∙ st.segments;
     reserved = ap (λ (a : Area). a.reserved) (sym st.area);
     committed = ap (λ (a : Area). a.committed) (sym st.area);
+    pages = sound.pages ∙ ap (λ (n : ℕ). 256 * n) (sound.segments ∙ st.segments);
     whole = sound.whole;
     spans =
         runs_are (taken_in h.back.words) (all_from (λ r. IsOneOf r (taken_in h.back.words)) (taken_in h.back.words) (λ r i. i)) (marks_are h.back.words 0 _ (runs_of h.back.words) sound.whole)
         ∙ ap (λ (a : Area). map (run_of_span m.state.back.places) a.spans) (sym st.area);
-    free = sym (frees_of h.back sound) ∙ ap (λ (a : Area). free_runs a) (sym st.area);
+    free = sym (frees_of (pages_in h.back) (pages_sound sound)) ∙ ap (λ (a : Area). free_runs a) (sym st.area);
     marks = heads_shown;
     headers = λ g.
         ap (λ (o : Option Head). option_map_or (λ (x : Head). encoded x h.vs.chunks.key (16 * g)) o 0) (heads_shown g)
         ∙ ap (λ (key : ℕ). option_map_or (λ (x : Head). encoded x key (16 * g)) (head_shown (vs_spans m.state.back.area) m.state.vs.places g) 0) st.key;
     front = front_shown h m st;
+    contents = subst (λ (l : Limits). AreShown h.lfh.words (data_region l) m.state.words) st.front_limits st.front.contents;
+    gate = gate_shown h m st;
+    made = subst (λ (word : ℕ). word ≤ h.limits.callers) (sym (st.front.quiet 0 (omega arith))) (omega arith);
   }

@@ -5,6 +5,7 @@ use Rattle.std.proofs.lemmas.Bool.{cases_Bool}
 use Rattle.rand_pcg.specs.Lcg.{Lcg}
 use Rattle.random_pick.specs.CallerDraws.{words_of, IsDrawn}
 use Rattle.random_pick.proofs.DrawLemmas.{next_draw_is}
+use Rattle.heap_model.specs.declared.Limits.{Limits}
 use Rattle.heap_model.specs.declared.Call.{Call}
 use Rattle.heap_model.specs.declared.Call.TheVariants as calls
 use Rattle.heap_model.specs.declared.Reply.{Reply}
@@ -130,8 +131,9 @@ module _ (h : LoneHeap) (m : Configuration) (st : Stands h m) (sound : IsSound h
         where
           same_vs : l.vs ≡ record h.vs { active = l.vs.active }
           same_vs =
-              ap (λ (x : List Span). record l.vs { spans = x }) a.spans
-              ∙ ap (λ (x : Chunks). record l.vs { spans = h.vs.spans; chunks = x }) a.chunks
+              ap (λ (x : Limits). record l.vs { limits = x }) a.vs_limits
+              ∙ ap (λ (x : List Span). record l.vs { limits = h.vs.limits; spans = x }) a.spans
+              ∙ ap (λ (x : Chunks). record l.vs { limits = h.vs.limits; spans = h.vs.spans; chunks = x }) a.chunks
               ∙ ap (λ (x : List ℕ). record h.vs { served = x; active = l.vs.active }) a.served
 
       opens : IsOpened h m l.vs.active l.lfh (activated m.state.vs b)

@@ -22,7 +22,8 @@ use Rattle.vs_layer.specs.Kept.{VsKept, places_of, served_of, active_of}
 use Rattle.vs_layer.specs.Effects.{IsOfOneHeap}
 use Rattle.backend_fit.specs.Kept.{block_runs}
 use Rattle.heap_now.specs.Standing.{LoneHeap, setting_of, front_of, Stands, Serves}
-use Rattle.backend_fit.specs.Kept.{place_of, IsBlockRun}
+use Rattle.backend_fit.specs.Effects.{place_of}
+use Rattle.heap_now.specs.Standing.{IsFilledRun}
 use Rattle.heap_now.proofs.Known.{reached_by, keeps}
 use Rattle.heap_now.proofs.StandFront.{front_is, hints_stay}
 
@@ -46,8 +47,8 @@ module _ (h : LoneHeap) (m : Configuration) (st : Stands h m) where
   -- a call that changed the back end alone
   pub back_serves : (new : Kept) (call : Call) (reply : Reply) (area : Area) (places : List Place) (left : ℕ → ℕ → Option ℕ) → EndsAndHints (setting_of h) m call reply area places left →
       area ≡ area_of new → vs_spans area ≡ h.vs.spans → lfh_spans area ≡ lfh_spans m.state.back.area → left ≡ hints_of m →
-      by_address places ≡ map place_of (block_runs new.words) → AllByRecursion IsBlockRun (block_runs new.words) →
-      new.region.segments ≡ h.back.region.segments → Serves h (record h { back = new }) m call reply
+      by_address places ≡ map place_of (block_runs new.words) → AllByRecursion IsFilledRun (block_runs new.words) →
+      new.limits.segments ≡ h.back.limits.segments → Serves h (record h { back = new }) m call reply
   back_serves new call reply area places left e a v x l p b g = record {
     rest = e.rest;
     completes = e.completes;
@@ -65,7 +66,7 @@ module _ (h : LoneHeap) (m : Configuration) (st : Stands h m) where
       served = ap (λ (y : VsPart). y.served) e.only.vs ∙ st.served;
       key = st.key;
       granules = st.granules;
-      front = front_is h.lfh (front_of m) (behind h m call e.rest) st.front (ap lfh_spans e.only.area_is ∙ x) e.only.lfh (e.only.hints ∙ l) (ap (λ (y : VsPart). y.active) e.only.vs);
+      front = front_is h.lfh (front_of m) (behind h m call e.rest) st.front (ap lfh_spans e.only.area_is ∙ x) e.only.lfh (e.only.hints ∙ l) (ap (λ (y : VsPart). y.active) e.only.vs) e.only.words;
       front_limits = st.front_limits;
       drawn = still_drawn h m (searches_of (behind h m call e.rest)) st e.only.searches;
       large = e.only.large ∙ st.large;
@@ -80,7 +81,7 @@ module _ (h : LoneHeap) (m : Configuration) (st : Stands h m) where
   -- a call that changed the variable-size layer and its spans
   pub vs_serves : (new : Kept) (later : VsKept) (call : Call) (reply : Reply) (area : Area) (places : List Place) (served : ℕ → ℕ) (left : ℕ → ℕ → Option ℕ) →
       EndsVsAndHints (setting_of h) m call reply area places served left →
-      area ≡ area_of new → block_runs new.words ≡ block_runs h.back.words → new.region.segments ≡ h.back.region.segments →
+      area ≡ area_of new → block_runs new.words ≡ block_runs h.back.words → new.limits.segments ≡ h.back.limits.segments →
       vs_spans area ≡ later.spans → lfh_spans area ≡ lfh_spans m.state.back.area → left ≡ hints_of m →
       by_address places ≡ places_of later → served ≡ served_of later → later.active ≡ h.vs.active → IsOfOneHeap h.vs later →
       Serves h (record h { back = new; vs = later }) m call reply
@@ -94,14 +95,14 @@ module _ (h : LoneHeap) (m : Configuration) (st : Stands h m) where
       reached = reached_by (setting_of h) m (acts.Begin call ∷ e.rest) st.reached e.completes.legal;
       area = e.only.area_is ∙ a;
       places = ap by_address e.only.back ∙ st.places ∙ ap (map place_of) (sym b);
-      blocks = subst (AllByRecursion IsBlockRun) (sym b) st.blocks;
+      blocks = subst (AllByRecursion IsFilledRun) (sym b) st.blocks;
       vs_spans_are = ap vs_spans e.only.area_is ∙ x;
       vs_places = ap (λ (y : VsPart). by_address y.places) e.only.vs_is ∙ p;
       active = ap (λ (y : VsPart). y.active) e.only.vs_is ∙ st.active ∙ sym (ap (λ (k : List Bool). active_of (record h.vs { active = k })) w);
       served = ap (λ (y : VsPart). y.served) e.only.vs_is ∙ v;
       key = o.key ∙ st.key;
       granules = o.granules ∙ st.granules;
-      front = front_is h.lfh (front_of m) (behind h m call e.rest) st.front (ap lfh_spans e.only.area_is ∙ f) e.only.lfh (e.only.hints ∙ l) (ap (λ (y : VsPart). y.active) e.only.vs_is);
+      front = front_is h.lfh (front_of m) (behind h m call e.rest) st.front (ap lfh_spans e.only.area_is ∙ f) e.only.lfh (e.only.hints ∙ l) (ap (λ (y : VsPart). y.active) e.only.vs_is) e.only.words;
       front_limits = st.front_limits;
       drawn = still_drawn h m (searches_of (behind h m call e.rest)) st e.only.searches;
       large = e.only.large ∙ st.large;

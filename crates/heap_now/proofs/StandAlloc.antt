@@ -25,9 +25,10 @@ use Rattle.backend_fit.specs.Sound.{IsSound}
 use Rattle.backend_fit.specs.Kept.{is_block_run, block_runs}
 use Rattle.heap_now.specs.Blocks.{block_run, IsPlaced, HasNoPlace, Allocates}
 use Rattle.heap_now.specs.Standing.{LoneHeap, setting_of, Stands, Serves}
-use Rattle.backend_fit.specs.Kept.{place_of, IsBlockRun}
+use Rattle.backend_fit.specs.Effects.{place_of}
+use Rattle.heap_now.specs.Standing.{IsFilledRun}
 use Rattle.backend_fit.proofs.OfKind.{run_of}
-use Rattle.backend_fit.proofs.Rising.{place_inserted, blocks_inserted}
+use Rattle.backend_fit.proofs.Rising.{place_inserted, all_inserted}
 use Rattle.backend_fit.proofs.Goes.{Goes, Into, Next, goes, same_segment, next_one, goes_next}
 use Rattle.heap_now.proofs.Known.{same_range, all_below}
 use Rattle.heap_now.proofs.StandAfter.{hints_of, back_serves, still_serves}
@@ -47,7 +48,7 @@ module _ (h : LoneHeap) (m : Configuration) (st : Stands h m) (sound : IsSound h
   abbrev area : Area
   area = m.state.back.area
 
-  block_stands : (first : ℕ) → IsBlockRun (block_run first n)
+  block_stands : (first : ℕ) → IsFilledRun (block_run first n)
   block_stands first = record { kind = refl; bucket = refl; slot = refl; unused = omega arith }
 
   more_blocks : (first : ℕ) (new : Kept) → taken_in new.words ≡ insert_run (block_run first n) (taken_in h.back.words) → block_runs new.words ≡ insert_run (block_run first n) (block_runs h.back.words)
@@ -70,7 +71,7 @@ module _ (h : LoneHeap) (m : Configuration) (st : Stands h m) (sound : IsSound h
       (filter-insert_span (is_of_kind kinds.Vs) (block_span first n) a.spans refl ∙ v)
       (filter-insert_span (is_of_kind kinds.Lfh) (block_span first n) a.spans refl ∙ f) refl
       (places_more first new more)
-      (subst (AllByRecursion IsBlockRun) (sym more) (blocks_inserted (block_run first n) (block_runs h.back.words) (block_stands first) st.blocks)) g.segments
+      (subst (AllByRecursion IsFilledRun) (sym more) (all_inserted IsFilledRun (block_run first n) (block_runs h.back.words) (block_stands first) st.blocks)) g.segments
 
   alloc_serves : (first : ℕ) (new : Kept) → IsPlaced h.back new n first → Serves h (record h { back = new }) m (calls.Alloc n plain) (replies.Address (4096 * first))
   alloc_serves first new g = go (goes area h.limits.segments (pages_of n) first place)

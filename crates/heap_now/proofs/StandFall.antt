@@ -79,8 +79,8 @@ module _ (h : LoneHeap) (m : Configuration) (st : Stands h m) (sound : IsSound h
   same_place : (gs : Option Run) → place_for vs n ≡ gs → vs_place (gaps m.state) (units_of n) ≡ gs
   same_place gs e = ap (λ (rs : List Run). vs_place rs (units_of n)) (gaps_same h m st) ∙ e
 
-  front_stays : StandsFor k.lfh (front_with area v m.state.lfh hints)
-  front_stays = subst (λ (w : LfhKept). StandsFor w (front_with area v m.state.lfh hints)) (sym fallen.lfh) o.front
+  front_stays : StandsFor k.lfh (front_with area v m.state.lfh hints m.state.words)
+  front_stays = subst (λ (w : LfhKept). StandsFor w (front_with area v m.state.lfh hints m.state.words)) (sym fallen.lfh) o.front
 
   limits_stay : k.lfh.limits ≡ lfh.limits
   limits_stay = ap (λ (w : LfhKept). w.limits) fallen.lfh
@@ -89,7 +89,7 @@ module _ (h : LoneHeap) (m : Configuration) (st : Stands h m) (sound : IsSound h
 
   module _ (more : VsKept) (addr : ℕ) (p : HasPlaced more k.vs n addr) (places : places_of more ≡ places_of h.vs) (served : more.served ≡ h.vs.served) (same : more.active ≡ active) (heap : IsOfOneHeap vs more) where
     -- it is in a span of this area
-    placed : (a : Area) → a ≡ area_of k.back → block_runs k.back.words ≡ block_runs h.back.words → k.back.region.segments ≡ h.back.region.segments → vs_spans a ≡ more.spans → lfh_spans a ≡ lfh_spans area →
+    placed : (a : Area) → a ≡ area_of k.back → block_runs k.back.words ≡ block_runs h.back.words → k.back.limits.segments ≡ h.back.limits.segments → vs_spans a ≡ more.spans → lfh_spans a ≡ lfh_spans area →
         HasLeft h m k a (vs_with v p.run n b) m.state.lfh hints
     placed a is blocks segments spans others = record {
       area_is = is;
@@ -102,7 +102,7 @@ module _ (h : LoneHeap) (m : Configuration) (st : Stands h m) (sound : IsSound h
           ap (serve (Some b)) (o.served ∙ st.served ∙ sym (ap (λ (ns : List ℕ). served_of (record h.vs { served = ns })) served))
           ∙ ap (λ (c : Option ℕ). serve c (served_of more)) (sym is_bucket) ∙ sym p.served;
       heap = record { key = p.heap.key ∙ heap.key; granules = p.heap.granules ∙ heap.granules };
-      front = subst (λ (xs : List Span). StandsFor k.lfh (record { spans = xs; places = m.state.lfh; hints = hints; active = v.active })) (sym others) front_stays;
+      front = subst (λ (xs : List Span). StandsFor k.lfh (record { spans = xs; places = m.state.lfh; hints = hints; active = v.active; contents = m.state.words })) (sym others) front_stays;
       limits = limits_stay ∙ o.limits;
       drawn = drawn;
     }
@@ -114,7 +114,7 @@ module _ (h : LoneHeap) (m : Configuration) (st : Stands h m) (sound : IsSound h
       (small_serves h m st k call (replies.Address (16 * p.run.first + 16)) area (vs_with v p.run n b) m.state.lfh hints
       (laws.in_gap p.run none no_range (same_place (Some p.run) p.place))
       (placed vs addr p refl refl refl (record { key = refl; granules = refl }) area (st.area ∙ ap area_of (sym same)) (ap (λ (x : Kept). block_runs x.words) same)
-      (ap (λ (x : Kept). x.region.segments) same) st.vs_spans_are refl))
+      (ap (λ (x : Kept). x.limits.segments) same) st.vs_spans_are refl))
 
   -- in a span that was made for it, which lies in a reserved segment
   module _ (more : VsKept) (addr : ℕ) (q : HasSpanFor h.back k.back vs more n) (p : HasPlaced more k.vs n addr) where

@@ -30,9 +30,11 @@ use Rattle.vs_layer.specs.Kept.{block_at}
 use Rattle.backend_fit.specs.Kept.{is_block_run, block_runs, is_block_at}
 use Rattle.heap_now.specs.Blocks.{block_size, IsGivenBack, Frees, Sizes}
 use Rattle.heap_now.specs.Standing.{LoneHeap, setting_of, Stands, Serves}
-use Rattle.backend_fit.specs.Kept.{place_of, IsBlockRun}
+use Rattle.backend_fit.specs.Effects.{place_of}
+use Rattle.heap_now.specs.Standing.{IsFilledRun}
+use Rattle.heap_now.proofs.OfKind.{of_back}
 use Rattle.backend_fit.proofs.OfKind.{removed_of, removed_other, found_of, filter_rising}
-use Rattle.backend_fit.proofs.Rising.{found_addr, found_block, only_one, found_place, any_place, removed_place, no_other, all_used, blocks_removed, start_found, span_found}
+use Rattle.backend_fit.proofs.Rising.{found_addr, found_block, only_one, found_place, any_place, removed_place, no_other, all_used, all_removed, start_found, span_found}
 use Rattle.heap_now.proofs.Known.{vs_found}
 use Rattle.heap_now.proofs.StandAfter.{hints_of, hints_left, back_serves, still_serves}
 
@@ -83,7 +85,7 @@ module _ (h : LoneHeap) (m : Configuration) (st : Stands h m) (sound : IsSound h
       let one : OnlyOne (has_address addr) (by_address m.state.back.places) = subst (OnlyOne (has_address addr)) (sym st.places) (only_one (has_address addr) addr (address_test addr) 0 blocks blocks_rise) in
       sym (found_sorted (has_address addr) m.state.back.places one)
       ∙ ap (find (has_address addr)) st.places
-      ∙ found_place (has_address addr) addr (address_test addr) blocks st.blocks
+      ∙ found_place (has_address addr) addr (address_test addr) blocks (of_back blocks st.blocks)
       ∙ ap (option_map place_of) f
 
   -- the places without it
@@ -98,7 +100,7 @@ module _ (h : LoneHeap) (m : Configuration) (st : Stands h m) (sound : IsSound h
   none_lives : (addr : ℕ) → has_live m.state.lfh addr ≡ false → block_at h.vs addr ≡ None → find (is_block_at addr) runs ≡ None → IsNotLive m.state addr
   none_lives addr u v f =
       let back : has_live m.state.back.places addr ≡ false =
-      sym (any_sorted (is_live_at addr) m.state.back.places) ∙ ap (list_any (is_live_at addr)) st.places ∙ any_place (is_live_at addr) addr (live_test addr) blocks st.blocks (found_there addr ∙ f) in
+      sym (any_sorted (is_live_at addr) m.state.back.places) ∙ ap (list_any (is_live_at addr)) st.places ∙ any_place (is_live_at addr) addr (live_test addr) blocks (of_back blocks st.blocks) (found_there addr ∙ f) in
       (u, none_live m.state.vs.places addr (vs_found h m st addr ∙ v), back, ap (λ (ps : List Place). has_live ps addr) st.large)
 
   free_serves : (new : Kept) (addr : ℕ) (r : Run) → IsGivenBack h.back new addr r → Serves h (record h { back = new }) m (calls.Free addr) replies.Done
@@ -106,7 +108,7 @@ module _ (h : LoneHeap) (m : Configuration) (st : Stands h m) (sound : IsSound h
       let f = found_there addr ∙ g.found in
       let at = found_addr addr blocks r f in
       let page : addr / 4096 ≡ r.first = omega (arith, at) in
-      let block = found_block IsBlockRun addr blocks r st.blocks f in
+      let block = found_block IsFilledRun addr blocks r st.blocks f in
       let spans : m.state.back.area.spans ≡ map span_of runs = ap (λ (a : Area). a.spans) st.area in
       let place : find (has_address addr) m.state.back.places ≡ Some (live_place addr (256 * r.pages) (block_size r)) = subst (λ (a : ℕ). find (has_address addr) m.state.back.places ≡ Some (live_place a (256 * r.pages) (block_size r))) at (place_found addr r f) in
       let start = start_found addr 0 runs r rising g.found in
@@ -114,7 +116,7 @@ module _ (h : LoneHeap) (m : Configuration) (st : Stands h m) (sound : IsSound h
       let spanned : span_at m.state.back.area (addr / 4096) ≡ Some (span_of r) = rw (page, spans) found in
       let less = places_less addr r f in
       let unused : has_place 4096 (places_without m.state.back.places addr) (span_of r) ≡ false =
-      sym (any_sorted (lies_in 4096 (span_of r)) (places_without m.state.back.places addr)) ∙ ap (list_any (lies_in 4096 (span_of r))) less ∙ no_other addr 0 blocks r blocks_rise st.blocks f in
+      sym (any_sorted (lies_in 4096 (span_of r)) (places_without m.state.back.places addr)) ∙ ap (list_any (lies_in 4096 (span_of r))) less ∙ no_other addr 0 blocks r blocks_rise (of_back blocks st.blocks) f in
       let rest_spans : remove_found (begins_at (addr / 4096)) m.state.back.area.spans ≡ map span_of (remove_found (starts_at r.first) runs) = rw (page, spans) (sym (spans_remove r.first runs)) in
       let blocks_left : filter is_block_run (remove_found (starts_at r.first) runs) ≡ remove_found (starts_at r.first) blocks = removed_of is_block_run (starts_at r.first) runs r start (kind_is r.mark.kind block.kind) in
       let fewer : block_runs new.words ≡ remove_found (starts_at r.first) blocks = ap (filter is_block_run) g.runs ∙ blocks_left in
@@ -129,7 +131,7 @@ module _ (h : LoneHeap) (m : Configuration) (st : Stands h m) (sound : IsSound h
       let among = found_in (begins_at (addr / 4096)) m.state.back.area.spans (span_of r) spanned in
       let left : forget_hint (addr / 4096) (hints_of m) ≡ hints_of m = ap (λ (p : ℕ). forget_hint p (hints_of m)) page ∙ hints_left h m st (span_of r) among (other_kind r.mark.kind kinds.Lfh block.kind refl) in
       back_serves h m st new (calls.Free addr) replies.Done (area_without m.state.back.area addr) (places_without m.state.back.places addr) (forget_hint (addr / 4096) (hints_of m)) e gone vs lfh left
-      (less ∙ ap (map place_of) (sym fewer)) (subst (AllByRecursion IsBlockRun) (sym fewer) (blocks_removed r.first blocks st.blocks)) g.segments
+      (less ∙ ap (map place_of) (sym fewer)) (subst (AllByRecursion IsFilledRun) (sym fewer) (all_removed IsFilledRun r.first blocks st.blocks)) g.segments
     where
       kind_is : (k : Kind) → k ≡ kinds.Back → is_kind k kinds.Back ≡ true
       kind_is k e = ap (λ (x : Kind). is_kind x kinds.Back) e

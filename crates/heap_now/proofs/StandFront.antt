@@ -20,17 +20,18 @@ abbrev pub Hints : Type 0
 Hints = ℕ → ℕ → Option ℕ
 
 -- a front end is told by its parts
-pub same_part : (t u : LfhPart) → t.spans ≡ u.spans → t.places ≡ u.places → t.hints ≡ u.hints → t.active ≡ u.active → t ≡ u
-same_part t u x p q a =
+pub same_part : (t u : LfhPart) → t.spans ≡ u.spans → t.places ≡ u.places → t.hints ≡ u.hints → t.active ≡ u.active → t.contents ≡ u.contents → t ≡ u
+same_part t u x p q a c =
     ap (λ (xs : List Span). record t { spans = xs }) x
-    ∙ ap (λ (ps : List Place). record u { places = ps; hints = t.hints; active = t.active }) p
-    ∙ ap (λ (hs : Hints). record u { hints = hs; active = t.active }) q
-    ∙ ap (λ (f : ℕ → Bool). record u { active = f }) a
+    ∙ ap (λ (ps : List Place). record u { places = ps; hints = t.hints; active = t.active; contents = t.contents }) p
+    ∙ ap (λ (hs : Hints). record u { hints = hs; active = t.active; contents = t.contents }) q
+    ∙ ap (λ (f : ℕ → Bool). record u { active = f; contents = t.contents }) a
+    ∙ ap (λ (f : ℕ → ℕ). record u { contents = f }) c
 
 -- words that stand for a front end stand for that of a configuration that has the same
 pub front_is : (k : LfhKept) (t : LfhPart) (n : Configuration) → StandsFor k t →
-    lfh_spans n.state.back.area ≡ t.spans → n.state.lfh ≡ t.places → n.now.span_history.hints ≡ t.hints → n.state.vs.active ≡ t.active → StandsFor k (front_of n)
-front_is k t n st x p h a = subst (StandsFor k) (same_part t (front_of n) (sym x) (sym p) (sym h) (sym a)) st
+    lfh_spans n.state.back.area ≡ t.spans → n.state.lfh ≡ t.places → n.now.span_history.hints ≡ t.hints → n.state.vs.active ≡ t.active → n.state.words ≡ t.contents → StandsFor k (front_of n)
+front_is k t n st x p h a c = subst (StandsFor k) (same_part t (front_of n) (sym x) (sym p) (sym h) (sym a) (sym c)) st
 
 ---- A span that goes takes no hint along, where it is none of this layer
 

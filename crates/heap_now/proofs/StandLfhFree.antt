@@ -46,7 +46,7 @@ module _ (h : LoneHeap) (m : Configuration) (st : Stands h m) where
       served = ap (λ (y : VsPart). y.served) e.only.vs ∙ st.served;
       key = st.key;
       granules = st.granules;
-      front = front_is later (with_places (front_of m) places) (behind h m call e.rest) front (ap lfh_spans e.only.area_is) e.only.places_are e.only.hints_are (ap (λ (y : VsPart). y.active) e.only.vs);
+      front = front_is later (with_places (front_of m) places) (behind h m call e.rest) front (ap lfh_spans e.only.area_is) e.only.places_are e.only.hints_are (ap (λ (y : VsPart). y.active) e.only.vs) e.only.words;
       front_limits = l ∙ st.front_limits;
       drawn = still_drawn h m (searches_of (behind h m call e.rest)) st e.only.searches_are;
       large = e.only.large ∙ st.large;

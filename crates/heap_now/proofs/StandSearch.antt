@@ -63,9 +63,9 @@ none_first (Some first) ys e = absurd (let z : ⊥ = cc in z)
 none_first None [] e = refl
 none_first None (y ∷ ys) e = absurd (let z : ⊥ = cc in z)
 
-module _ (m : Configuration) (v : VsPart) (k : LfhKept) (b slot : ℕ) (stands : StandsFor k (front_with m.state.back.area v m.state.lfh m.now.span_history.hints)) where
+module _ (m : Configuration) (v : VsPart) (k : LfhKept) (b slot : ℕ) (stands : StandsFor k (front_with m.state.back.area v m.state.lfh m.now.span_history.hints m.state.words)) where
   abbrev t : LfhPart
-  t = front_with m.state.back.area v m.state.lfh m.now.span_history.hints
+  t = front_with m.state.back.area v m.state.lfh m.now.span_history.hints m.state.words
 
   abbrev xs : List Span
   xs = spans_for t b slot
@@ -121,7 +121,7 @@ module _ (h : LoneHeap) (m : Configuration) (st : Stands h m) (sound : IsSound h
   call = calls.Alloc n plain
 
   abbrev pub front : LfhPart
-  front = front_with area v m.state.lfh hints
+  front = front_with area v m.state.lfh hints m.state.words
 
   pub stands_in : StandsIn lfh (area_of h.back) front
   stands_in = record { stands = o.front; spans = ap lfh_spans st.area }
@@ -144,12 +144,12 @@ module _ (h : LoneHeap) (m : Configuration) (st : Stands h m) (sound : IsSound h
     as_address addr a e r = subst (λ (x : ℕ). Serves h (with_layers h k) m call (replies.Address x)) (sym e) r
 
     -- no span was made and no block of the variable-size layer
-    pub unmoved : (places : List Place) (left : Hints) → k.back ≡ h.back → k.vs ≡ record h.vs { active = active } → k.lfh.limits ≡ lfh.limits → StandsFor k.lfh (front_with area v places left) →
+    pub unmoved : (places : List Place) (left : Hints) → k.back ≡ h.back → k.vs ≡ record h.vs { active = active } → k.lfh.limits ≡ lfh.limits → StandsFor k.lfh (front_with area v places left m.state.words) →
         HasLeft h m k area v places left
     unmoved places left same vs limits front = record {
       area_is = st.area ∙ ap area_of (sym same);
       blocks = ap (λ (x : Kept). block_runs x.words) same;
-      segments = ap (λ (x : Kept). x.region.segments) same;
+      segments = ap (λ (x : Kept). x.limits.segments) same;
       spans = st.vs_spans_are ∙ sym (ap (λ (x : VsKept). x.spans) vs);
       places = ap by_address o.places ∙ st.vs_places ∙ sym (ap places_of vs);
       active = o.active_is ∙ sym (ap active_of vs);
@@ -201,10 +201,10 @@ module _ (h : LoneHeap) (m : Configuration) (st : Stands h m) (sound : IsSound h
           area_left : with_span x (lfh_span first b 0) ≡ area_of k.back
           area_left = ap (λ (y : Area). with_span y (lfh_span first b 0)) (sym segment) ∙ sym r.area
 
-          front_left : StandsFor k.lfh (front_with (with_span x (lfh_span first b 0)) v made (hint_put hints b 0 first))
+          front_left : StandsFor k.lfh (front_with (with_span x (lfh_span first b 0)) v made (hint_put hints b 0 first) m.state.words)
           front_left =
               let spans : lfh_spans (with_span x (lfh_span first b 0)) ≡ r.part.spans = ap lfh_spans area_left ∙ sym r.spans in
-              subst (StandsFor k.lfh) (same_part r.part (front_with (with_span x (lfh_span first b 0)) v made (hint_put hints b 0 first)) (sym spans) r.places r.hints r.active) r.stands.stands
+              subst (StandsFor k.lfh) (same_part r.part (front_with (with_span x (lfh_span first b 0)) v made (hint_put hints b 0 first) m.state.words) (sym spans) r.places r.hints r.active r.contents) r.stands.stands
 
           moved : HasLeft h m k (with_span x (lfh_span first b 0)) v made (hint_put hints b 0 first)
           moved = record {

@@ -32,27 +32,28 @@ use Rattle.lfh_claims.specs.Kept.{LfhKept, LfhPart, StandsFor}
 use Rattle.backend_fit.specs.Kept.{block_runs}
 use Rattle.heap_now.specs.Layers.{Layers}
 use Rattle.heap_now.specs.Standing.{LoneHeap, with_layers, setting_of, Stands, Serves}
-use Rattle.backend_fit.specs.Kept.{place_of, IsBlockRun}
+use Rattle.backend_fit.specs.Effects.{place_of}
+use Rattle.heap_now.specs.Standing.{IsFilledRun}
 use Rattle.heap_now.proofs.Known.{reached_by}
 use Rattle.heap_now.proofs.StandFront.{Hints, front_is}
 use Rattle.backend_fit.proofs.Goes.{GoesNext}
 
 -- a front end by what a call has left
-abbrev pub front_with : Area → VsPart → List Place → Hints → LfhPart
-front_with area v lfh hints = record { spans = lfh_spans area; places = lfh; hints = hints; active = v.active }
+abbrev pub front_with : Area → VsPart → List Place → Hints → (ℕ → ℕ) → LfhPart
+front_with area v lfh hints contents = record { spans = lfh_spans area; places = lfh; hints = hints; active = v.active; contents = contents }
 
 -- The layers keep this area, this part of the variable-size layer, and these places and hints of the front end. The blocks of the back end
 -- are as before, and one draw more was made.
 pub record HasLeft (h : LoneHeap) (m : Configuration) (k : Layers) (area : Area) (v : VsPart) (lfh : List Place) (hints : Hints) : Type 0 where
   pub area_is : area ≡ area_of k.back
   pub blocks : block_runs k.back.words ≡ block_runs h.back.words
-  pub segments : k.back.region.segments ≡ h.back.region.segments
+  pub segments : k.back.limits.segments ≡ h.back.limits.segments
   pub spans : vs_spans area ≡ k.vs.spans
   pub places : by_address v.places ≡ places_of k.vs
   pub active : v.active ≡ active_of k.vs
   pub served : v.served ≡ served_of k.vs
   pub heap : IsOfOneHeap h.vs k.vs
-  pub front : StandsFor k.lfh (front_with area v lfh hints)
+  pub front : StandsFor k.lfh (front_with area v lfh hints m.state.words)
   pub limits : k.lfh.limits ≡ h.lfh.limits
   pub drawn : IsBeforeDraw (setting_of h) 0 (suc (searches_of m)) (words_of k.generator)
 
@@ -69,7 +70,7 @@ module _ (h : LoneHeap) (m : Configuration) (st : Stands h m) where
       reached = reached_by (setting_of h) m (acts.Begin call ∷ e.rest) st.reached e.completes.legal;
       area = e.only.area_is ∙ l.area_is;
       places = ap by_address e.only.back ∙ st.places ∙ ap (map place_of) (sym l.blocks);
-      blocks = subst (AllByRecursion IsBlockRun) (sym l.blocks) st.blocks;
+      blocks = subst (AllByRecursion IsFilledRun) (sym l.blocks) st.blocks;
       vs_spans_are = ap vs_spans e.only.area_is ∙ l.spans;
       vs_places = ap (λ (y : VsPart). by_address y.places) e.only.vs_is ∙ l.places;
       active = ap (λ (y : VsPart). y.active) e.only.vs_is ∙ l.active;
@@ -77,8 +78,8 @@ module _ (h : LoneHeap) (m : Configuration) (st : Stands h m) where
       key = l.heap.key ∙ st.key;
       granules = l.heap.granules ∙ st.granules;
       front =
-          front_is k.lfh (front_with area v lfh hints) (configuration_by (setting_of h) m (acts.Begin call ∷ e.rest)) l.front
-          (ap lfh_spans e.only.area_is) e.only.lfh_is e.only.hints_are (ap (λ (y : VsPart). y.active) e.only.vs_is);
+          front_is k.lfh (front_with area v lfh hints m.state.words) (configuration_by (setting_of h) m (acts.Begin call ∷ e.rest)) l.front
+          (ap lfh_spans e.only.area_is) e.only.lfh_is e.only.hints_are (ap (λ (y : VsPart). y.active) e.only.vs_is) e.only.words;
       front_limits = l.limits ∙ st.front_limits;
       drawn =
           let one : suc (searches_of m) ≡ searches_of m + 1 = omega arith in
@@ -117,7 +118,7 @@ pub record IsOpened (h : LoneHeap) (m : Configuration) (active : List Bool) (lfh
   pub places : v.places ≡ m.state.vs.places
   pub served : v.served ≡ m.state.vs.served
   pub active_is : v.active ≡ active_of (record h.vs { active = active })
-  pub front : StandsFor lfh (front_with m.state.back.area v m.state.lfh m.now.span_history.hints)
+  pub front : StandsFor lfh (front_with m.state.back.area v m.state.lfh m.now.span_history.hints m.state.words)
   pub limits : lfh.limits ≡ h.lfh.limits
 
 -- What an allocation of n bytes in bucket b does, case by case, where the part of the variable-size layer is v once the bucket is active.

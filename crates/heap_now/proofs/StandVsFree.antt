@@ -231,7 +231,7 @@ module _ (h : LoneHeap) (m : Configuration) (st : Stands h m) where
           let used_still = subst (λ (a : ℕ). are_used 4096 kinds.Vs (vs_without m.state.vs.places a) m.state.back.area.spans ≡ true) starts (all_used left_is) in
           let e = vs_frees (setting_of h) m p.start p.granules size_is st.limits.some_callers st.at_rest (found_here addr p there) used_still in
           as_free (vs_serves h m st new later (calls.Free (p.start + 16)) replies.Done m.state.back.area (vs_without m.state.vs.places (p.start + 16)) m.state.vs.served (hints_of m) e
-          (st.area ∙ ap area_of (sym same)) (ap (λ (k : Kept). block_runs k.words) same) (ap (λ (k : Kept). k.region.segments) same)
+          (st.area ∙ ap area_of (sym same)) (ap (λ (k : Kept). block_runs k.words) same) (ap (λ (k : Kept). k.limits.segments) same)
           (st.vs_spans_are ∙ sym spans) refl refl (less (p.start + 16) (sym starts) ∙ sym places) served_same active heap)
 
       close_serves : (first pages : ℕ) → first ≡ x.first → IsReturned h.back new (Some (first, pages)) → has_place 4096 (places_of later) x ≡ false → later.spans ≡ remove_found (begins_at x.first) h.vs.spans →

@@ -76,6 +76,7 @@ pub record AllocatesBySearch (old new : Layers) (b n : ℕ) (reply : Reply) : Ty
 pub record Activates (old new : Layers) (b : ℕ) : Type 0 where
   pub back : new.back ≡ old.back
   pub active : active_of new.vs ≡ updated (active_of old.vs) b true
+  pub vs_limits : new.vs.limits ≡ old.vs.limits
   pub chunks : new.vs.chunks ≡ old.vs.chunks
   pub spans : new.vs.spans ≡ old.vs.spans
   pub served : new.vs.served ≡ old.vs.served

@@ -13,19 +13,19 @@ use Rattle.heap_model.specs.declared.Limits.{Limits}
 use Rattle.heap_model.specs.declared.Reply.{Reply}
 use Rattle.heap_model.specs.declared.Run.{Run}
 use Rattle.heap_model.specs.Limits.{AreValid}
-use Rattle.heap_model.specs.State.{Setting, Place, by_address}
+use Rattle.heap_model.specs.State.{Setting, by_address}
 use Rattle.heap_model.specs.Ranges.{vs_spans}
 use Rattle.heap_model.specs.CallState.{Configuration}
 use Rattle.heap_model.specs.History.{may_all_follow, first_configuration, configuration_of}
 use Rattle.heap_model.specs.Alone.{alone, configuration_by}
 use Rattle.serial_laws.specs.OneCall.{IsAtRest, searches_of, Completes}
-use Rattle.serial_laws.specs.BackCalls.{plain, live_place}
+use Rattle.serial_laws.specs.BackCalls.{plain}
 use Rattle.claim_rule.specs.Shown.{lfh_spans}
-use Rattle.backend_fit.specs.Kept.{Kept, area_of}
+use Rattle.backend_fit.specs.Kept.{Kept, area_of, block_runs}
+use Rattle.backend_fit.specs.Effects.{place_of}
 use Rattle.vs_headers.specs.Headers.{key_of}
 use Rattle.vs_layer.specs.Kept.{VsKept, places_of, served_of, active_of}
 use Rattle.lfh_claims.specs.Kept.{LfhKept, LfhPart, StandsFor}
-use Rattle.backend_fit.specs.Kept.{block_runs}
 use Rattle.heap_now.specs.Layers.{Layers}
 
 -- What the heap of one caller is seen as: its limits, its seed, what its layers keep, and the generator of its draws.
@@ -46,19 +46,16 @@ with_layers h k = record { limits = h.limits; seed = h.seed; back = k.back; vs =
 abbrev pub setting_of : LoneHeap → Setting
 setting_of h = alone h.limits h.seed
 
--- the place of the block that a run of the back end is
-abbrev pub place_of : Run → Place
-place_of r = live_place (4096 * r.first) (256 * r.pages) (4096 * r.pages - r.mark.unused)
-
-pub record IsBlockRun (r : Run) : Type 0 where
+-- a run of the back end with the mark of its block
+pub record IsFilledRun (r : Run) : Type 0 where
   pub kind : r.mark.kind ≡ kinds.Back
   pub bucket : r.mark.bucket ≡ 0
   pub slot : r.mark.slot ≡ 0
   pub unused : r.mark.unused ≤ 4096 * r.pages
 
--- the low-fragmentation front end of a configuration
+-- the low-fragmentation front end of a configuration, and its data words
 abbrev pub front_of : Configuration → LfhPart
-front_of m = record { spans = lfh_spans m.state.back.area; places = m.state.lfh; hints = m.now.span_history.hints; active = m.state.vs.active }
+front_of m = record { spans = lfh_spans m.state.back.area; places = m.state.lfh; hints = m.now.span_history.hints; active = m.state.vs.active; contents = m.state.words }
 
 -- Some legal history leads to the configuration.
 pub record IsReached (s : Setting) (m : Configuration) : Type 0 where
@@ -71,12 +68,12 @@ pub record IsReached (s : Setting) (m : Configuration) : Type 0 where
 -- the generator stands before its next draw, and large places there are none.
 pub record Stands (h : LoneHeap) (m : Configuration) : Type 0 where
   pub limits : AreValid h.limits
-  pub segments : h.back.region.segments ≡ h.limits.segments
+  pub segments : h.back.limits.segments ≡ h.limits.segments
   pub at_rest : IsAtRest m
   pub reached : IsReached (setting_of h) m
   pub area : m.state.back.area ≡ area_of h.back
   pub places : by_address m.state.back.places ≡ map place_of (block_runs h.back.words)
-  pub blocks : AllByRecursion IsBlockRun (block_runs h.back.words)
+  pub blocks : AllByRecursion IsFilledRun (block_runs h.back.words)
   pub vs_spans_are : vs_spans m.state.back.area ≡ h.vs.spans
   pub vs_places : by_address m.state.vs.places ≡ places_of h.vs
   pub active : m.state.vs.active ≡ active_of h.vs

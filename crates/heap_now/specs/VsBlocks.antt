@@ -24,7 +24,7 @@ use Rattle.heap_now.specs.Blocks.{Frees, Sizes}
 -- blocks lie in its spans.
 pub record AreOneHeap (kept : Kept) (vs : VsKept) : Type 0 where
   pub spans : vs_spans (area_of kept) ≡ vs.spans
-  pub granules : length vs.chunks.heads ≡ 65536 * kept.region.segments
+  pub granules : length vs.chunks.heads ≡ 65536 * kept.limits.segments
   pub inside : AreAt (IsInVs vs.spans) (places_of vs)
 
 -- the run of a span of so many pages at this page
@@ -35,10 +35,10 @@ vs_run first pages = marked_run first pages vs_mark
 pub record HasSpanFor (old new : Kept) (vs more : VsKept) (n : ℕ) : Type 0 where
   pub first : ℕ
   pub none : place_for vs n ≡ None
-  pub place : back_place (area_of old) old.region.segments (span_pages_of n) ≡ Some first
+  pub place : back_place (area_of old) old.limits.segments (span_pages_of n) ≡ Some first
   pub area : area_of new ≡ with_span (with_segment (area_of old) first) (vs_span first (span_pages_of n))
   pub runs : taken_in new.words ≡ insert_run (vs_run first (span_pages_of n)) (taken_in old.words)
-  pub segments : new.region.segments ≡ old.region.segments
+  pub segments : new.limits.segments ≡ old.limits.segments
   pub apart : AllByRecursion (LieApart first (span_pages_of n)) vs.spans
   pub spans : more.spans ≡ insert_span (vs_span first (span_pages_of n)) vs.spans
   pub places : places_of more ≡ places_of vs
@@ -49,7 +49,7 @@ pub record HasSpanFor (old new : Kept) (vs more : VsKept) (n : ℕ) : Type 0 whe
 -- whether the back end had a range for a span; where it had none, nothing changed
 abbrev pub OpensSpan : Kept → Kept → VsKept → VsKept → ℕ → Bool → Type 0
 OpensSpan old new vs more n true = HasSpanFor old new vs more n
-OpensSpan old new vs more n false = (back_place (area_of old) old.region.segments (span_pages_of n) ≡ None) × (new ≡ old) × (more ≡ vs)
+OpensSpan old new vs more n false = (back_place (area_of old) old.limits.segments (span_pages_of n) ≡ None) × (new ≡ old) × (more ≡ vs)
 
 -- A block of n bytes was placed in a gap that was there ..
 pub record IsInGap (old new : Kept) (vs later : VsKept) (n addr : ℕ) : Type 0 where
@@ -65,7 +65,7 @@ pub record IsInSpan (old new : Kept) (vs later : VsKept) (n addr : ℕ) : Type 0
 -- No gap is long enough, and no range is for a span, and nothing changed.
 pub record HasNoRange (old new : Kept) (vs later : VsKept) (n : ℕ) : Type 0 where
   pub none : place_for vs n ≡ None
-  pub range : back_place (area_of old) old.region.segments (span_pages_of n) ≡ None
+  pub range : back_place (area_of old) old.limits.segments (span_pages_of n) ≡ None
   pub same : new ≡ old
   pub same_vs : later ≡ vs
 
@@ -79,7 +79,7 @@ abbrev pub IsReturned : Kept → Kept → Option (ℕ × ℕ) → Type 0
 IsReturned old new None = new ≡ old
 IsReturned old new (Some span) =
     (area_of new ≡ without_span (area_of old) span.0) × (taken_in new.words ≡ remove_found (starts_at span.0) (taken_in old.words))
-    × (new.region.segments ≡ old.region.segments)
+    × (new.limits.segments ≡ old.limits.segments)
 
 -- The block at the address is gone, and its span with it where it was the last one of this.
 pub record IsDropped (old new : Kept) (vs later : VsKept) (addr : ℕ) : Type 0 where

@@ -9,8 +9,7 @@ ghost use Rattle.backend_fit.specs.Kept.{is_block_at};
 ghost use Rattle.heap_now.specs.Blocks.{block_size, Allocates, Frees, Sizes};
 
 use backend_fit::Back;
-use heap_model::{Kind, Mark, Reply, Run};
-use layout_decode::PAGE_BYTES;
+use heap_model::{Kind, Mark, PAGE_BYTES, Reply, Run};
 
 /// Places a block of `n` bytes, 131,073 to 520,192, where its pages fit best.
 pub fn allocate(back: &mut Back, n: u64) -> Reply
@@ -18,12 +17,7 @@ pub fn allocate(back: &mut Back, n: u64) -> Reply
     ensures { Allocates back.old back.new n result }
 {
     let pages = pages_for(n);
-    let mark = Mark {
-        kind: Kind::Back,
-        bucket: 0,
-        slot: 0,
-        unused: (PAGE_BYTES as u32 * pages - n as u32) as u16,
-    };
+    let mark = Mark::back((PAGE_BYTES as u32 * pages - n as u32) as u16);
     match back.take(pages, mark) {
         Some(first) => Reply::Address(PAGE_BYTES * u64::from(first)),
         None => Reply::NoFit,

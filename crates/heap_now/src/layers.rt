@@ -7,17 +7,11 @@ use crate::blocks::{allocate, free_at, size_at};
 use crate::front::allocate_small;
 use crate::vs_blocks::{allocate_vs, drop_at};
 use backend_fit::Back;
-use heap_model::Reply;
+use heap_model::{MOST_SMALL, MOST_VARIABLE, Reply};
 use lfh_claims::PlainLfh;
 use rand_pcg::Pcg32;
 use random_pick::Draws;
 use vs_layer::Vs;
-
-/// The most bytes of a small block, which has a bucket.
-const MOST_SMALL: u64 = 16_368;
-
-/// The most bytes of a block of the variable-size layer.
-const MOST_VS: u64 = 131_072;
 
 /// Places a block of `n` bytes in the layer of its size.
 pub fn allocate_in(
@@ -34,7 +28,7 @@ pub fn allocate_in(
     if n <= MOST_SMALL {
         return allocate_small(back, vs, lfh, draws, n);
     }
-    if n <= MOST_VS {
+    if n <= MOST_VARIABLE {
         return allocate_vs(back, vs, n);
     }
     allocate(back, n)

@@ -115,7 +115,6 @@ impl Solo {
         // the blocks that it decodes to are the live ones
         ensures blocks { (m : Configuration) → Stands self m → decode result ≡ live m.state }
         ensures readable { IsReadable result }
-        ensures pages { length result.descs ≡ 256 * result.region.segments }
     {
         let Solo {
             limits,

@@ -5,16 +5,8 @@ ghost use Rattle.vs_layer.specs.Kept.{place_for, block_at};
 ghost use Rattle.heap_now.specs.VsBlocks.{AreOneHeap, OpensSpan, AllocatesVs, IsDropped};
 
 use backend_fit::Back;
-use heap_model::{Kind, Mark, Reply};
+use heap_model::{Mark, Reply};
 use vs_layer::Vs;
-
-/// What the pages of a span of this layer are marked as.
-const VS_MARK: Mark = Mark {
-    kind: Kind::Vs,
-    bucket: 0,
-    slot: 0,
-    unused: 0,
-};
 
 /// Places a block of at most 131,072 bytes in the smallest gap that holds it, or in a span that is made for it.
 pub fn allocate_vs(back: &mut Back, vs: &mut Vs, n: u64) -> Reply
@@ -40,7 +32,7 @@ fn open_span(back: &mut Back, vs: &mut Vs, n: u64) -> bool
     ensures { OpensSpan back.old back.new vs.old vs.new n result }
 {
     let pages = Vs::span_pages(n);
-    match back.take(pages, VS_MARK) {
+    match back.take(pages, Mark::VS) {
         Some(first) => {
             let _descs = back.descs();
             vs.add_span(first, pages);

@@ -17,8 +17,3 @@ pub returns-clause-readable : goal.returns-clause-readable
 returns-clause-readable c =
     can_be_read _ _ c.self.view_is c.into_parts-region.ensures.sound c.into_heads-heads.ensures.shown _ _ c.key_of-key.result c.into_heads-heads.result c.into_words-words.result
     c.into_parts-region.ensures.region c.into_parts-region.ensures.descs c.key_of-key.ensures c.into_heads-heads.ensures.chunks c.into_words-words.ensures c.self.invariant
-
-pub returns-clause-pages : goal.returns-clause-pages
-returns-clause-pages c =
-    ap (λ (ws : List ℕ). length ws) c.into_parts-region.ensures.descs ∙ c.into_parts-region.ensures.sound.pages
-    ∙ ap (λ (r : Held). 256 * r.segments) (sym c.into_parts-region.ensures.region)

@@ -1,4 +1,5 @@
 use Rattle.std.proofs.Common.{◌∙◌, ap}
+use Rattle.heap_model.specs.declared.Limits.{Limits}
 use Rattle.vs_layer.specs.Effects.{nothing_kept}
 use Rattle.heap_now.proofs.Opening.{opens, begins}
 use Rattle.heap_now.proofs.Solo.new.Goals as goal
@@ -8,9 +9,9 @@ returns-clause-stands c =
     opens c.args.limits c.args.seed c.in_ok-back.back c.in_ok-vs.vs c.in_ok-lfh.lfh c.new-draws.result (record {
       valid = c.requires;
       area = c.in_ok-back.ensures.area;
-      taken = c.in_ok-back.ensures.marks;
-      segments = c.in_ok-back.ensures.segments;
-      vs_is = c.in_ok-vs.ensures ∙ ap (nothing_kept c.args.limits.segments) c.key_of.ensures;
+      taken = c.in_ok-back.ensures.spans;
+      segments = ap (λ (l : Limits). l.segments) c.in_ok-back.ensures.limits;
+      vs_is = c.in_ok-vs.ensures.nothing ∙ ap (nothing_kept c.args.limits) c.key_of.ensures;
       front = c.in_ok-lfh.ensures.stands;
       front_limits = c.in_ok-lfh.ensures.limits;
       draws = c.new-draws.ensures ∙ c.new-4.ensures;
@@ -22,9 +23,9 @@ invariant_of-result c =
     (opens c.args.limits c.args.seed c.in_ok-back.back c.in_ok-vs.vs c.in_ok-lfh.lfh c.new-draws.result (record {
       valid = c.requires;
       area = c.in_ok-back.ensures.area;
-      taken = c.in_ok-back.ensures.marks;
-      segments = c.in_ok-back.ensures.segments;
-      vs_is = c.in_ok-vs.ensures ∙ ap (nothing_kept c.args.limits.segments) c.key_of.ensures;
+      taken = c.in_ok-back.ensures.spans;
+      segments = ap (λ (l : Limits). l.segments) c.in_ok-back.ensures.limits;
+      vs_is = c.in_ok-vs.ensures.nothing ∙ ap (nothing_kept c.args.limits) c.key_of.ensures;
       front = c.in_ok-lfh.ensures.stands;
       front_limits = c.in_ok-lfh.ensures.limits;
       draws = c.new-draws.ensures ∙ c.new-4.ensures;

@@ -1,5 +1,6 @@
 use Rattle.std.proofs.Common.{ℕ, ◌≤◌, ◌∙◌, sym, ap, subst, arith}
 use Rattle.std.specs.List.{AllByRecursion}
+use Rattle.heap_model.specs.declared.Limits.{Limits}
 use Rattle.heap_model.specs.Geometry.{span_pages_of}
 use Rattle.heap_model.specs.State.{insert_span}
 use Rattle.heap_model.specs.Backend.{back_place}
@@ -24,25 +25,25 @@ add_span-requires-clause-pages c =
     let e = c.span_pages-pages.ensures in
     let least = least_pages c.args.n in
     let most = most_pages c.args.n c.requires.size in
-    span_pages c.args.back.now c.take.new.self c.in-Some.first c.span_pages-pages.result c.descs-descs.ensures.sound c.in-Some.ensures.marks c.args.vs.now.chunks c.requires.one.granules c.take.ensures.segments
+    span_pages c.args.back.now c.take.new.self c.in-Some.first c.span_pages-pages.result c.descs-descs.ensures.sound c.in-Some.ensures.spans c.args.vs.now.chunks c.requires.one.granules (ap (λ (l : Limits). l.segments) c.take.ensures.limits)
     (omega (arith, e, least)) (omega (arith, e, most))
 
 pub add_span-requires-clause-apart : goal.add_span-requires-clause-apart
-add_span-requires-clause-apart c = lies_apart c.args.back.now c.take.new.self c.in-Some.first c.span_pages-pages.result c.descs-descs.ensures.sound c.in-Some.ensures.marks c.args.vs.now c.requires.one
+add_span-requires-clause-apart c = lies_apart c.args.back.now c.take.new.self c.in-Some.first c.span_pages-pages.result c.descs-descs.ensures.sound c.in-Some.ensures.spans c.args.vs.now c.requires.one
 
 pub returns-in-Some : goal.returns-in-Some
 returns-in-Some c =
     let e = c.span_pages-pages.ensures in
     let old = c.args.back.now in
     let first = c.in-Some.first in
-    let apart = lies_apart c.args.back.now c.take.new.self c.in-Some.first c.span_pages-pages.result c.descs-descs.ensures.sound c.in-Some.ensures.marks c.args.vs.now c.requires.one in
+    let apart = lies_apart c.args.back.now c.take.new.self c.in-Some.first c.span_pages-pages.result c.descs-descs.ensures.sound c.in-Some.ensures.spans c.args.vs.now c.requires.one in
     record {
       first = first;
       none = c.requires.none;
-      place = ap (back_place (area_of old) old.region.segments) (sym e) ∙ sym c.in-Some.ensures.place;
+      place = ap (back_place (area_of old) old.limits.segments) (sym e) ∙ sym c.in-Some.ensures.place;
       area = c.in-Some.ensures.area ∙ ap (λ (p : ℕ). with_span (with_segment (area_of old) first) (vs_span first p)) e;
-      runs = c.in-Some.ensures.marks ∙ ap (λ (p : ℕ). insert_run (vs_run first p) (taken_in old.words)) e;
-      segments = c.take.ensures.segments;
+      runs = c.in-Some.ensures.spans ∙ ap (λ (p : ℕ). insert_run (vs_run first p) (taken_in old.words)) e;
+      segments = (ap (λ (l : Limits). l.segments) c.take.ensures.limits);
       apart = subst (λ (p : ℕ). AllByRecursion (LieApart first p) c.args.vs.now.spans) e apart;
       spans = c.add_span.ensures.spans ∙ ap (λ (p : ℕ). insert_span (vs_span first p) c.args.vs.now.spans) e;
       places = c.add_span.ensures.places;
