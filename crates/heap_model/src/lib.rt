@@ -8,7 +8,6 @@ ghost use Rattle.heap_model.specs.Limits.{AreValid};
 mod stands;
 
 pub use stands::Stands;
-
 use std::alloc::AllocError;
 
 /// The layer that keeps a block: the low-fragmentation front end, the variable-size layer, the back end of page spans,
