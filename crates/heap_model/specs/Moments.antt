@@ -1,5 +1,5 @@
 -- The acts of one caller in a history, each with the configuration in which it came.
-use Rattle.std.specs.Prelude.{ℕ, ◌==◌, Bool, List, [], ◌∷◌, map, if◌then◌else◌}
+use Rattle.std.specs.Prelude.{ℕ, ◌==◌, Bool, List, [], ◌∷◌, map, Option, Some, None, if◌then◌else◌}
 use Rattle.heap_model.specs.declared.Act.{Act}
 use Rattle.heap_model.specs.declared.Entry.{Entry}
 use Rattle.heap_model.specs.State.{Setting, State}
@@ -27,13 +27,24 @@ act_of x = x.act
 abbrev pub acts_of : List Moment → List Act
 acts_of xs = map act_of xs
 
--- what holds of the state before the first act that passes, where there is one
-abbrev pub Before : (Act → Bool) → (State → Type 0) → List Moment → Type 0
-Before test P [] = ⊥
-Before test P (x ∷ xs) = if test x.act then P x.before.state else Before test P xs
+-- the state before the first act that passes
+abbrev pub state_before : (Act → Bool) → List Moment → Option State
+state_before test [] = None
+state_before test (x ∷ xs) = if test x.act then Some x.before.state else state_before test xs
 
--- .. of the state before the last act
+-- .. before the last act
+abbrev pub state_before_last : List Moment → Option State
+state_before_last [] = None
+state_before_last (x ∷ []) = Some x.before.state
+state_before_last (x ∷ y ∷ ys) = state_before_last (y ∷ ys)
+
+-- there is such a state, and this holds of it
+abbrev pub In : Option State → (State → Type 0) → Type 0
+In None P = ⊥
+In (Some st) P = P st
+
+abbrev pub Before : (Act → Bool) → (State → Type 0) → List Moment → Type 0
+Before test P xs = In (state_before test xs) P
+
 abbrev pub BeforeLast : (State → Type 0) → List Moment → Type 0
-BeforeLast P [] = ⊥
-BeforeLast P (x ∷ []) = P x.before.state
-BeforeLast P (x ∷ y ∷ ys) = BeforeLast P (y ∷ ys)
+BeforeLast P xs = In (state_before_last xs) P

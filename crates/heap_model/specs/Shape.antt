@@ -1,6 +1,6 @@
 -- What the entries of a call are, by what it is answered. The documentation of HeapAlloc, HeapReAlloc, HeapFree, HeapSize, HeapLock, HeapUnlock,
 -- HeapWalk and HeapCompact says what each call does; which entries stand for it is this project's own.
-use Rattle.std.specs.Prelude.{◌≡◌, ◌⊎◌, ℕ, ◌+◌, ◌*◌, ◌/◌, ◌-◌, ◌<◌, ◌≤◌, Bool, true, false, ◌&&◌, ◌||◌, not, min, nat_le, List, [], ◌∷◌, ◌++◌, map, length, filter, cond, Option, Some, None}
+use Rattle.std.specs.Prelude.{◌≡◌, ◌⊎◌, ℕ, ◌+◌, ◌*◌, ◌/◌, ◌-◌, ◌<◌, ◌≤◌, Bool, true, false, ◌&&◌, ◌||◌, not, min, nat_le, List, [], ◌∷◌, ◌++◌, map, length, filter, cond, Option, Some, None, if◌then◌else◌}
 use Rattle.std.specs.List.{find, list_any}
 use Rattle.heap_model.specs.declared.Block.{Block}
 use Rattle.heap_model.specs.declared.Busy.{Busy}
