@@ -183,7 +183,8 @@ module _ (s : Setting) (back : BackPart) (vs : VsPart) (lfh large : List Place) 
               (come s m5 a5 r6 (rw there (gives n paged))
               (come s m6 (acts.GiveLock whats.Back) (acts.Leave ∷ []) again
               (come s m7 acts.Leave [] (ap is_empty left) refl)))))));
-          answered = record { own = refl; shape = (refl, refl) };
+          steps = λ depth. refl;
+          answered = record { one = (refl, refl); shape = (refl, refl) };
           idle = record { outside = refl; holds = refl; hands = left; demand = refl };
         };
         at_rest = record { rest = refl; hands = left; whole = again; used = kept };
@@ -240,7 +241,8 @@ module _ (s : Setting) (back : BackPart) (vs : VsPart) (lfh large : List Place) 
               (come s m5 a5 r6 (rw there (gives n paged))
               (come s m6 (acts.GiveLock whats.Back) (acts.Leave ∷ []) again
               (come s m7 acts.Leave [] (ap is_empty left) refl))))))));
-          answered = record { own = refl; shape = (refl, refl) };
+          steps = λ depth. refl;
+          answered = record { one = (refl, refl); shape = (refl, refl) };
           idle = record { outside = refl; holds = refl; hands = left; demand = refl };
         };
         at_rest = record { rest = refl; hands = left; whole = again; used = kept };
@@ -278,7 +280,8 @@ module _ (s : Setting) (back : BackPart) (vs : VsPart) (lfh large : List Place) 
               (come s m3 (acts.NoFit n) r4 (rw (same, route, none) refl)
               (come s m4 (acts.GiveLock whats.Back) (acts.Leave ∷ []) whole
               (come s m5 acts.Leave [] (ap is_empty empty) refl)))));
-          answered = record { own = refl; shape = refl };
+          steps = λ depth. refl;
+          answered = record { one = (refl, refl); shape = refl };
           idle = record { outside = refl; holds = refl; hands = empty; demand = refl };
         };
         at_rest = record { rest = refl; hands = empty; whole = whole; used = used };

@@ -225,7 +225,8 @@ module _ (s : Setting) (back : BackPart) (vs : VsPart) (lfh large : List Place) 
               (come s m4 a4 r5 (rw there (suits_it n r fits_layer.size (count_is _ (units_of n) r fits)))
               (come s m5 (acts.GiveLock whats.Vs) (acts.Leave ∷ []) again
               (come s m6 acts.Leave [] (ap is_empty left) refl))))));
-          answered = record { own = refl; shape = (refl, refl) };
+          steps = λ depth. refl;
+          answered = record { one = (refl, refl); shape = (refl, refl) };
           idle = record { outside = refl; holds = refl; hands = left; demand = refl };
         };
         at_rest = record { rest = refl; hands = left; whole = whole_again lfh vs.places back.places large r n empty back.area.spans whole; used = again };
@@ -283,7 +284,8 @@ module _ (s : Setting) (back : BackPart) (vs : VsPart) (lfh large : List Place) 
               (come s m7 (acts.GiveLock whats.Back) (acts.GiveLock whats.Vs ∷ acts.Leave ∷ []) kept
               (come s m8 (acts.GiveLock whats.Vs) (acts.Leave ∷ []) again
               (come s m9 acts.Leave [] (ap is_empty left) refl)))))))));
-          answered = record { own = refl; shape = (refl, refl) };
+          steps = λ depth. refl;
+          answered = record { one = (refl, refl); shape = (refl, refl) };
           idle = record { outside = refl; holds = refl; hands = left; demand = refl };
         };
         at_rest = record { rest = refl; hands = left; whole = kept; used = again };
@@ -347,7 +349,8 @@ module _ (s : Setting) (back : BackPart) (vs : VsPart) (lfh large : List Place) 
               (come s m7 (acts.GiveLock whats.Back) (acts.GiveLock whats.Vs ∷ acts.Leave ∷ []) kept
               (come s m8 (acts.GiveLock whats.Vs) (acts.Leave ∷ []) again
               (come s m9 acts.Leave [] (ap is_empty left) refl))))))))));
-          answered = record { own = refl; shape = (refl, refl) };
+          steps = λ depth. refl;
+          answered = record { one = (refl, refl); shape = (refl, refl) };
           idle = record { outside = refl; holds = refl; hands = left; demand = refl };
         };
         at_rest = record { rest = refl; hands = left; whole = kept; used = again };
@@ -391,7 +394,8 @@ module _ (s : Setting) (back : BackPart) (vs : VsPart) (lfh large : List Place) 
               (come s m5 (acts.GiveLock whats.Back) (acts.GiveLock whats.Vs ∷ acts.Leave ∷ []) whole
               (come s m6 (acts.GiveLock whats.Vs) (acts.Leave ∷ []) used
               (come s m7 acts.Leave [] (ap is_empty empty) refl)))))));
-          answered = record { own = refl; shape = refl };
+          steps = λ depth. refl;
+          answered = record { one = (refl, refl); shape = refl };
           idle = record { outside = refl; holds = refl; hands = empty; demand = refl };
         };
         at_rest = record { rest = refl; hands = empty; whole = whole; used = used };
