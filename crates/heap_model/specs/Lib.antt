@@ -15,6 +15,7 @@ pub mod Agreement
 pub mod Alone
 pub mod Moments
 pub mod Shape
+pub mod Contents
 pub mod Served
 pub mod Serial
 pub mod Layout
