@@ -90,11 +90,17 @@ one_history s m (c ∷ cs) (r ∷ rs) (y ∷ ys) i h =
           come-append s m first (in_turn cs ys)
           ∙ and_from (may_all_come s m first) (may_all_come s next (in_turn cs ys)) h.0.legal rest.legal;
       to = by-append s m first (in_turn cs ys) ∙ rest.to;
-      served = λ depth.
-      (r ∷ [], rs, moments_by s m first, moments_by s next (in_turn cs ys), refl, moments_by-append s m first (in_turn cs ys),
-      subst (λ (o : Option Reply). IsServed (GetsReply s 0) o c (r ∷ []) (moments_by s m first)) (sym (h.0.steps depth))
-      (asks_one (GetsReply s 0) c r (moments_by s m first) h.0.steps h.0.answered),
-      rest.served (depth_after depth c (r ∷ [])));
+      served = λ depth. (
+        r ∷ [],
+        rs,
+        moments_by s m first,
+        moments_by s next (in_turn cs ys),
+        refl,
+        moments_by-append s m first (in_turn cs ys),
+        subst (λ (o : Option Reply). IsServed (GetsReply s 0) o c (r ∷ []) (moments_by s m first)) (sym (h.0.steps depth))
+            (asks_one (GetsReply s 0) c r (moments_by s m first) h.0.steps h.0.answered),
+        rest.served (depth_after depth c (r ∷ [])),
+      );
       idle = rest.idle;
     }
 
