@@ -1,1 +1,4 @@
 pub mod Words
+pub mod Goes
+pub mod Within
+pub mod Blocks

@@ -2,6 +2,7 @@
 #![tactic(auto)]
 
 ghost use Rattle.call_laws.specs.Words.{WordsChangeByStores, CopiesKeep, ZeroesStay, OthersStay};
+ghost use Rattle.call_laws.specs.Blocks.{Taking, Sizing, Resizing, Giving, Dropping, Loading, Storing, PlacingLarge, PlacingInGap, RefusingLarge, RefusingBack, RefusingVs, FindingNone};
 
 /// A data word changes by Stores alone.
 pub fn words_change_by_stores()
@@ -21,4 +22,69 @@ pub fn copies_keep()
 /// Zeroed words are 0.
 pub fn zeroes_stay()
     ensures { ZeroesStay }
+{}
+
+/// A live block is taken in hand.
+pub fn taking()
+    ensures { Taking }
+{}
+
+/// The size of a live block is found.
+pub fn sizing()
+    ensures { Sizing }
+{}
+
+/// A live block that lets it is resized where it is.
+pub fn resizing()
+    ensures { Resizing }
+{}
+
+/// A block in hand is given.
+pub fn giving()
+    ensures { Giving }
+{}
+
+/// A block in hand is dropped, save one of the back end.
+pub fn dropping()
+    ensures { Dropping }
+{}
+
+/// A data word is loaded.
+pub fn loading()
+    ensures { Loading }
+{}
+
+/// A data word is stored.
+pub fn storing()
+    ensures { Storing }
+{}
+
+/// A place is made in the large area.
+pub fn placing_large()
+    ensures { PlacingLarge }
+{}
+
+/// A place is made in a gap of the variable-size layer.
+pub fn placing_in_gap()
+    ensures { PlacingInGap }
+{}
+
+/// No range fits a large block.
+pub fn refusing_large()
+    ensures { RefusingLarge }
+{}
+
+/// No range fits a block of the back end.
+pub fn refusing_back()
+    ensures { RefusingBack }
+{}
+
+/// No range fits a block of the variable-size layer.
+pub fn refusing_vs()
+    ensures { RefusingVs }
+{}
+
+/// No live block has an address, by what the caller sees of one part of the heap.
+pub fn finding_none()
+    ensures { FindingNone }
 {}
