@@ -27,7 +27,7 @@ use Rattle.serial_laws.proofs.Places.{all_inserted}
 pub come : (s : Setting) (m : Configuration) (act : Act) (rest : List Act) → may_follow s m (by_zero act) ≡ true → may_all_come s (after s m (by_zero act)) rest ≡ true → may_all_come s m (act ∷ rest) ≡ true
 come s m act rest h k = and_from (may_follow s m (by_zero act)) (may_all_come s (after s m (by_zero act)) rest) h k
 
-paged_is : (r : Route) → is_paged r ≡ true → r ≡ Paged
+pub paged_is : (r : Route) → is_paged r ≡ true → r ≡ Paged
 paged_is Small h = absurd (false≢true h)
 paged_is Variable h = absurd (false≢true h)
 paged_is Paged h = refl

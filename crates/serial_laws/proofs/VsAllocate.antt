@@ -51,7 +51,7 @@ count_is spaces k r h = go (least is_smaller (fitting k spaces)) (λ q. least_fi
 
 ---- What the tests of the acts come to
 
-sized : (n : ℕ) → (is_small (route_of n) || is_variable (route_of n)) ≡ true → n ≤ 131072
+pub sized : (n : ℕ) → (is_small (route_of n) || is_variable (route_of n)) ≡ true → n ≤ 131072
 sized n h = elim (cases_Bool (leb n 131072)) [
   | inl e ↦ leb-true n 131072 e
   | inr e ↦
@@ -78,7 +78,7 @@ suits_it n r h (inr e) =
     let d = eq-eqb r.count (units_of n + 1) e in
     rw (a, b, d) (or_right (eqb r.count (units_of n)) true refl)
 
-no_other : (o : Option ℕ) (test : ℕ → Bool) → for_some o test ≡ false → not (for_some o (λ b. test b && true)) ≡ true
+pub no_other : (o : Option ℕ) (test : ℕ → Bool) → for_some o test ≡ false → not (for_some o (λ b. test b && true)) ≡ true
 no_other None test h = refl
 no_other (Some b) test h = rw h refl
 
@@ -101,7 +101,7 @@ spans s area spaces first n none f l =
     rw (f, a, b, none, d) refl
 
 -- a small size has a bucket
-has_bucket : (n : ℕ) → leb n 16368 ≡ true → (b : ℕ) × (bucket_of n ≡ Some b)
+pub has_bucket : (n : ℕ) → leb n 16368 ≡ true → (b : ℕ) × (bucket_of n ≡ Some b)
 has_bucket n h =
     let l = leb-true n 16368 h in
     let m = max 1 n in
