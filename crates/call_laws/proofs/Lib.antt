@@ -3,3 +3,4 @@ pub mod Goes
 pub mod Within
 pub mod Blocks
 pub mod Places
+pub mod Spans

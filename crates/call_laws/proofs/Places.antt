@@ -33,7 +33,7 @@ use Rattle.call_laws.specs.Blocks.{PlacingLarge, PlacingInGap, RefusingLarge, Re
 use Rattle.call_laws.proofs.Within.{leads, keeps, among_all}
 
 -- what the call asks
-asks : (m : Configuration) (c : ℕ) (call : Call) (n : ℕ) → IsWithin m c call → asked_by call ≡ Some n → asked (m.now.calls c) ≡ Some n
+pub asks : (m : Configuration) (c : ℕ) (call : Call) (n : ℕ) → IsWithin m c call → asked_by call ≡ Some n → asked (m.now.calls c) ≡ Some n
 asks m c call n w e = ap (option_and_then asked_by) w.call_is ∙ e
 
 huge_is : (r : Route) → is_huge r ≡ true → r ≡ Huge
@@ -52,7 +52,7 @@ placing_large s m c call n start w lock asked_is huge fits =
     refl refl refl
 
 -- where the bucket is neither active nor due, the front end is not asked
-not_front : (o : Option ℕ) (test more : ℕ → Bool) → for_some o test ≡ false → not (for_some o (λ b. test b && more b)) ≡ true
+pub not_front : (o : Option ℕ) (test more : ℕ → Bool) → for_some o test ≡ false → not (for_some o (λ b. test b && more b)) ≡ true
 not_front None test more h = refl
 not_front (Some b) test more h = rw h refl
 

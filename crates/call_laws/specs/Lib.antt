@@ -1,3 +1,4 @@
 pub mod Words
 pub mod Within
 pub mod Blocks
+pub mod Spans

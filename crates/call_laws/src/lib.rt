@@ -3,6 +3,7 @@
 
 ghost use Rattle.call_laws.specs.Words.{WordsChangeByStores, CopiesKeep, ZeroesStay, OthersStay};
 ghost use Rattle.call_laws.specs.Blocks.{Taking, Sizing, Resizing, Giving, Dropping, Loading, Storing, PlacingLarge, PlacingInGap, RefusingLarge, RefusingBack, RefusingVs, FindingNone};
+ghost use Rattle.call_laws.specs.Spans.{AllocationPlaces, ReallocationPlaces, PlacingBack, ReservingBack, DroppingBack, PlacingInSpan, ReservingSpan, EndingSpan, Freeing, FreeingBack};
 
 /// A data word changes by Stores alone.
 pub fn words_change_by_stores()
@@ -87,4 +88,54 @@ pub fn refusing_vs()
 /// No live block has an address, by what the caller sees of one part of the heap.
 pub fn finding_none()
     ensures { FindingNone }
+{}
+
+/// An allocation that has placed nothing yet places its size.
+pub fn allocation_places()
+    ensures { AllocationPlaces }
+{}
+
+/// A reallocation of a block that can't stay places the new size.
+pub fn reallocation_places()
+    ensures { ReallocationPlaces }
+{}
+
+/// A block of the back end, in a segment that is reserved.
+pub fn placing_back()
+    ensures { PlacingBack }
+{}
+
+/// A block of the back end, for which the next segment is reserved.
+pub fn reserving_back()
+    ensures { ReservingBack }
+{}
+
+/// A block of the back end in hand goes, with its span.
+pub fn dropping_back()
+    ensures { DroppingBack }
+{}
+
+/// A block of the variable-size layer in a span that is made for it.
+pub fn placing_in_span()
+    ensures { PlacingInSpan }
+{}
+
+/// A block of the variable-size layer for whose span the next segment is reserved.
+pub fn reserving_span()
+    ensures { ReservingSpan }
+{}
+
+/// A span of the variable-size layer in which no block is left goes.
+pub fn ending_span()
+    ensures { EndingSpan }
+{}
+
+/// A live block is taken and dropped, save one of the back end.
+pub fn freeing()
+    ensures { Freeing }
+{}
+
+/// A live block of the back end is taken and dropped, and its span goes.
+pub fn freeing_back()
+    ensures { FreeingBack }
 {}
