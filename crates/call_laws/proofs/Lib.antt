@@ -4,3 +4,4 @@ pub mod Within
 pub mod Blocks
 pub mod Places
 pub mod Spans
+pub mod TakenBlocks
