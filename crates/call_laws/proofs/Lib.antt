@@ -5,3 +5,4 @@ pub mod Blocks
 pub mod Places
 pub mod Spans
 pub mod TakenBlocks
+pub mod Told

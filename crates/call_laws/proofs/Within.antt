@@ -83,7 +83,7 @@ among_all st layers.Vs p h = among_four layers.Vs p st.lfh st.vs.places st.back.
 among_all st layers.Back p h = among_four layers.Back p st.lfh st.vs.places st.back.places st.large h
 among_all st layers.Large p h = among_four layers.Large p st.lfh st.vs.places st.back.places st.large h
 
-in_hand_of : (c : ℕ) (p : Place) (ps : List Place) → p.status ≡ InHand c → IsOneOf p ps → IsOneOf p (in_hand c ps)
+pub in_hand_of : (c : ℕ) (p : Place) (ps : List Place) → p.status ≡ InHand c → IsOneOf p ps → IsOneOf p (in_hand c ps)
 in_hand_of c p [] e h = absurd h
 in_hand_of c p (q ∷ ps) e (inl same) =
     let t : is_in_hand_of c q.status ≡ true = ap (λ (x : Place). is_in_hand_of c x.status) same ∙ (ap (is_in_hand_of c) e ∙ eq-eqb c c refl) in

@@ -2,3 +2,4 @@ pub mod Words
 pub mod Within
 pub mod Blocks
 pub mod Spans
+pub mod Told

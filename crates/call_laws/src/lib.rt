@@ -4,6 +4,7 @@
 ghost use Rattle.call_laws.specs.Words.{WordsChangeByStores, CopiesKeep, ZeroesStay, OthersStay};
 ghost use Rattle.call_laws.specs.Blocks.{Taking, Sizing, Resizing, Giving, Dropping, Loading, Storing, PlacingLarge, PlacingInGap, RefusingLarge, RefusingBack, RefusingVs, FindingNone};
 ghost use Rattle.call_laws.specs.Spans.{AllocationPlaces, ReallocationPlaces, PlacingBack, ReservingBack, DroppingBack, PlacingInSpan, ReservingSpan, EndingSpan, Freeing, FreeingBack};
+ghost use Rattle.call_laws.specs.Told.{OwnActsAnswer, FirstIsBefore, FindingStays};
 
 /// A data word changes by Stores alone.
 pub fn words_change_by_stores()
@@ -138,4 +139,19 @@ pub fn freeing()
 /// A live block of the back end is taken and dropped, and its span goes.
 pub fn freeing_back()
     ensures { FreeingBack }
+{}
+
+/// The caller's own entries tell the answer, where acts alone tell the shape.
+pub fn own_acts_answer()
+    ensures { OwnActsAnswer }
+{}
+
+/// What holds when the first entry of a kind comes.
+pub fn first_is_before()
+    ensures { FirstIsBefore }
+{}
+
+/// What a caller finds of a block that is open to it alone stays.
+pub fn finding_stays()
+    ensures { FindingStays }
 {}
