@@ -6,3 +6,6 @@ pub mod Places
 pub mod Spans
 pub mod TakenBlocks
 pub mod Told
+pub mod Shown
+pub mod Moved
+pub mod KeptWords

@@ -51,7 +51,7 @@ drop_taken c a (q ∷ ps) h = elim (cases_Bool (has_address a q)) [
 ]
 
 -- the places of a layer, changed
-places_changed : (st : State) (l : Layer) (f : List Place → List Place) → places_of (with_places st (Some l) f) l ≡ f (places_of st l)
+pub places_changed : (st : State) (l : Layer) (f : List Place → List Place) → places_of (with_places st (Some l) f) l ≡ f (places_of st l)
 places_changed st layers.Lfh f = refl
 places_changed st layers.Vs f = refl
 places_changed st layers.Back f = refl

@@ -70,7 +70,7 @@ stay_same s m k c n p layers.Back e a t = rw e (λ i. is_paged (route_of n) && l
 stay_same s m k c n p layers.Large e a t =
     rw e (λ i. is_huge (route_of n) && leb (256 * pages_of n) (p.granules + 256 * run_from (large_runs s.limits (a.large t i)) (p.start / 4096 - 256 * s.limits.segments + p.granules / 256)))
 
-out_of_hand : (c : ℕ) (p : Place) (ps : List Place) → IsOneOf p (in_hand c ps) → IsOneOf p ps
+pub out_of_hand : (c : ℕ) (p : Place) (ps : List Place) → IsOneOf p (in_hand c ps) → IsOneOf p ps
 out_of_hand c p [] h = absurd h
 out_of_hand c p (q ∷ ps) h = elim (cases_Bool (is_in_hand_of c q.status)) [
   | inl e ↦ elim (rw e at h) [ inl same ↦ inl same | inr i ↦ inr (out_of_hand c p ps i) ]

@@ -55,12 +55,12 @@ leads s m c call act st w b r to gate demand = record {
 pub keeps : (s : Setting) (m : Configuration) → IsReached s m → Keeps s m
 keeps s m r = subst (Keeps s) (sym r.leads) (keeps_all s r.entries r.valid r.legal)
 
-one_in : {A : Type 0} (x : A) (xs ys : List A) → IsOneOf x xs → IsOneOf x (xs ++ ys)
+pub one_in : {A : Type 0} (x : A) (xs ys : List A) → IsOneOf x xs → IsOneOf x (xs ++ ys)
 one_in x [] ys h = absurd h
 one_in x (y ∷ xs) ys (inl e) = inl e
 one_in x (y ∷ xs) ys (inr h) = inr (one_in x xs ys h)
 
-one_behind : {A : Type 0} (x : A) (xs ys : List A) → IsOneOf x ys → IsOneOf x (xs ++ ys)
+pub one_behind : {A : Type 0} (x : A) (xs ys : List A) → IsOneOf x ys → IsOneOf x (xs ++ ys)
 one_behind x [] ys h = h
 one_behind x (y ∷ xs) ys h = inr (one_behind x xs ys h)
 

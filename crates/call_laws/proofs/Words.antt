@@ -40,11 +40,12 @@ left_word word v _ h = refl
 
 ---- The Loads and Stores of a caller
 
-abbrev pub mine : ℕ → List Entry → List Act
-mine c [] = []
-mine c (e ∷ es) = cond (eqb e.caller c && is_of_word e.act) (e.act ∷ mine c es) (mine c es)
+-- the own acts that pass
+abbrev pub mine : (Act → Bool) → ℕ → List Entry → List Act
+mine test c [] = []
+mine test c (e ∷ es) = cond (eqb e.caller c && test e.act) (e.act ∷ mine test c es) (mine test c es)
 
-pub mine_is : (s : Setting) (c : ℕ) (m : Configuration) (es : List Entry) → word_acts_of s c m es ≡ mine c es
+pub mine_is : (s : Setting) (c : ℕ) (m : Configuration) (es : List Entry) → word_acts_of s c m es ≡ mine is_of_word c es
 mine_is s c m [] = refl
 mine_is s c m (e ∷ es) = go (eqb e.caller c) (mine_is s c (after s m e) es)
   where
@@ -52,9 +53,9 @@ mine_is s c m (e ∷ es) = go (eqb e.caller c) (mine_is s c (after s m e) es)
     word true xs ys h = ap (λ (l : List Act). e.act ∷ l) h
     word false xs ys h = h
 
-    go : (b : Bool) → word_acts_of s c (after s m e) es ≡ mine c es →
-        word_acts (acts_of (cond b (record { before = m; act = e.act } ∷ moments s c (after s m e) es) (moments s c (after s m e) es))) ≡ cond (b && is_of_word e.act) (e.act ∷ mine c es) (mine c es)
-    go true h = word (is_of_word e.act) (word_acts_of s c (after s m e) es) (mine c es) h
+    go : (b : Bool) → word_acts_of s c (after s m e) es ≡ mine is_of_word c es →
+        word_acts (acts_of (cond b (record { before = m; act = e.act } ∷ moments s c (after s m e) es) (moments s c (after s m e) es))) ≡ cond (b && is_of_word e.act) (e.act ∷ mine is_of_word c es) (mine is_of_word c es)
+    go true h = word (is_of_word e.act) (word_acts_of s c (after s m e) es) (mine is_of_word c es) h
     go false h = h
 
 -- an act that is no Load or Store stores to no word
@@ -70,19 +71,19 @@ or_from : (a b : Bool) → a ≡ false → b ≡ false → (a || b) ≡ false
 or_from a b h k = rw h k
 
 -- an entry that does not store to the word
-one_less : (c word : ℕ) (e : Entry) (es : List Entry) → list_any (is_store_to word) (mine c (e ∷ es)) ≡ false → is_stored_by_others c word (e ∷ es) ≡ false →
-    (is_store_to word e.act ≡ false) × (list_any (is_store_to word) (mine c es) ≡ false) × (is_stored_by_others c word es ≡ false)
+one_less : (c word : ℕ) (e : Entry) (es : List Entry) → list_any (is_store_to word) (mine is_of_word c (e ∷ es)) ≡ false → is_stored_by_others c word (e ∷ es) ≡ false →
+    (is_store_to word e.act ≡ false) × (list_any (is_store_to word) (mine is_of_word c es) ≡ false) × (is_stored_by_others c word es ≡ false)
 one_less c word e es h k =
     let q = or_parts (not (eqb e.caller c) && is_store_to word e.act) (is_stored_by_others c word es) k in
     elim (cases_Bool (eqb e.caller c)) [
       | inl x ↦ elim (cases_Bool (is_of_word e.act)) [
-          | inl y ↦ let r = or_parts (is_store_to word e.act) (list_any (is_store_to word) (mine c es)) (rw (x, y) at h) in (r.0, r.1, q.1)
+          | inl y ↦ let r = or_parts (is_store_to word e.act) (list_any (is_store_to word) (mine is_of_word c es)) (rw (x, y) at h) in (r.0, r.1, q.1)
           | inr y ↦ (no_word word e.act y, rw (x, y) at h, q.1)
         ]
       | inr x ↦ (rw x at q.0, rw x at h, q.1)
     ]
 
-pub stays : (s : Setting) (c : ℕ) (m : Configuration) (es : List Entry) (word : ℕ) → list_any (is_store_to word) (mine c es) ≡ false → is_stored_by_others c word es ≡ false →
+pub stays : (s : Setting) (c : ℕ) (m : Configuration) (es : List Entry) (word : ℕ) → list_any (is_store_to word) (mine is_of_word c es) ≡ false → is_stored_by_others c word es ≡ false →
     (configuration_after s m es).state.words word ≡ m.state.words word
 stays s c m [] word h k = refl
 stays s c m (e ∷ es) word h k =
@@ -92,62 +93,62 @@ stays s c m (e ∷ es) word h k =
 pub others_stay : OthersStay
 others_stay s c m es word h k = stays s c m es word (ap (list_any (is_store_to word)) (sym (mine_is s c m es)) ∙ h) k
 
----- A history split at an own Load or Store
+---- A history split at an own act that passes
 
-pub record IsSplit (c : ℕ) (es : List Entry) (xs : List Act) (y : Act) (ys : List Act) : Type 0 where
+pub record IsSplit (test : Act → Bool) (c : ℕ) (es : List Entry) (xs : List Act) (y : Act) (ys : List Act) : Type 0 where
   pub first : List Entry
   pub entry : Entry
   pub later : List Entry
   pub is : es ≡ first ++ entry ∷ later
   pub caller : entry.caller ≡ c
   pub act : entry.act ≡ y
-  pub before : mine c first ≡ xs
-  pub behind : mine c later ≡ ys
+  pub before : mine test c first ≡ xs
+  pub behind : mine test c later ≡ ys
 
--- .. behind one more entry, which is no own Load or Store
-skip : (c : ℕ) (e : Entry) (es : List Entry) (xs : List Act) (y : Act) (ys : List Act) → (eqb e.caller c && is_of_word e.act) ≡ false → IsSplit c es xs y ys → IsSplit c (e ∷ es) xs y ys
-skip c e es xs y ys b r = record {
+-- .. behind one more entry, which is no own act that passes
+skip : (test : Act → Bool) (c : ℕ) (e : Entry) (es : List Entry) (xs : List Act) (y : Act) (ys : List Act) → (eqb e.caller c && test e.act) ≡ false → IsSplit test c es xs y ys → IsSplit test c (e ∷ es) xs y ys
+skip test c e es xs y ys b r = record {
   first = e ∷ r.first;
   entry = r.entry;
   later = r.later;
   is = ap (λ (l : List Entry). e ∷ l) r.is;
   caller = r.caller;
   act = r.act;
-  before = ap (λ (t : Bool). cond t (e.act ∷ mine c r.first) (mine c r.first)) b ∙ r.before;
+  before = ap (λ (t : Bool). cond t (e.act ∷ mine test c r.first) (mine test c r.first)) b ∙ r.before;
   behind = r.behind;
 }
 
 -- .. or which is
-count : (c : ℕ) (e : Entry) (es : List Entry) (x : Act) (xs : List Act) (y : Act) (ys : List Act) → (eqb e.caller c && is_of_word e.act) ≡ true → e.act ≡ x → IsSplit c es xs y ys → IsSplit c (e ∷ es) (x ∷ xs) y ys
-count c e es x xs y ys b act r = record {
+count : (test : Act → Bool) (c : ℕ) (e : Entry) (es : List Entry) (x : Act) (xs : List Act) (y : Act) (ys : List Act) → (eqb e.caller c && test e.act) ≡ true → e.act ≡ x → IsSplit test c es xs y ys → IsSplit test c (e ∷ es) (x ∷ xs) y ys
+count test c e es x xs y ys b act r = record {
   first = e ∷ r.first;
   entry = r.entry;
   later = r.later;
   is = ap (λ (l : List Entry). e ∷ l) r.is;
   caller = r.caller;
   act = r.act;
-  before = ap (λ (t : Bool). cond t (e.act ∷ mine c r.first) (mine c r.first)) b ∙ (λ i. act i ∷ r.before i);
+  before = ap (λ (t : Bool). cond t (e.act ∷ mine test c r.first) (mine test c r.first)) b ∙ (λ i. act i ∷ r.before i);
   behind = r.behind;
 }
 
-pub split : (c : ℕ) (es : List Entry) (xs : List Act) (y : Act) (ys : List Act) → mine c es ≡ xs ++ y ∷ ys → IsSplit c es xs y ys
-split c [] [] y ys h = absurd (let z : ⊥ = cc in z)
-split c [] (x ∷ xs) y ys h = absurd (let z : ⊥ = cc in z)
-split c (e ∷ es) [] y ys h = elim (cases_Bool (eqb e.caller c && is_of_word e.act)) [
+pub split : (test : Act → Bool) (c : ℕ) (es : List Entry) (xs : List Act) (y : Act) (ys : List Act) → mine test c es ≡ xs ++ y ∷ ys → IsSplit test c es xs y ys
+split test c [] [] y ys h = absurd (let z : ⊥ = cc in z)
+split test c [] (x ∷ xs) y ys h = absurd (let z : ⊥ = cc in z)
+split test c (e ∷ es) [] y ys h = elim (cases_Bool (eqb e.caller c && test e.act)) [
   | inl b ↦
-      let k : e.act ∷ mine c es ≡ y ∷ ys = (rw b at h) in
+      let k : e.act ∷ mine test c es ≡ y ∷ ys = (rw b at h) in
       let act : e.act ≡ y = cc in
-      let rest : mine c es ≡ ys = cc in
-      record { first = []; entry = e; later = es; is = refl; caller = eqb-true e.caller c (and_parts (eqb e.caller c) (is_of_word e.act) b).0; act = act; before = refl; behind = rest }
-  | inr b ↦ skip c e es [] y ys b (split c es [] y ys (rw b at h))
+      let rest : mine test c es ≡ ys = cc in
+      record { first = []; entry = e; later = es; is = refl; caller = eqb-true e.caller c (and_parts (eqb e.caller c) (test e.act) b).0; act = act; before = refl; behind = rest }
+  | inr b ↦ skip test c e es [] y ys b (split test c es [] y ys (rw b at h))
 ]
-split c (e ∷ es) (x ∷ xs) y ys h = elim (cases_Bool (eqb e.caller c && is_of_word e.act)) [
+split test c (e ∷ es) (x ∷ xs) y ys h = elim (cases_Bool (eqb e.caller c && test e.act)) [
   | inl b ↦
-      let k : e.act ∷ mine c es ≡ x ∷ (xs ++ y ∷ ys) = (rw b at h) in
+      let k : e.act ∷ mine test c es ≡ x ∷ (xs ++ y ∷ ys) = (rw b at h) in
       let act : e.act ≡ x = cc in
-      let rest : mine c es ≡ xs ++ y ∷ ys = cc in
-      count c e es x xs y ys b act (split c es xs y ys rest)
-  | inr b ↦ skip c e es (x ∷ xs) y ys b (split c es (x ∷ xs) y ys (rw b at h))
+      let rest : mine test c es ≡ xs ++ y ∷ ys = cc in
+      count test c e es x xs y ys b act (split test c es xs y ys rest)
+  | inr b ↦ skip test c e es (x ∷ xs) y ys b (split test c es (x ∷ xs) y ys (rw b at h))
 ]
 
 ---- What is copied
@@ -218,13 +219,13 @@ pub copies_keep : CopiesKeep
 copies_keep s c m es from to values rest i legal own below apart none others_from others_to =
     let x = at_index values i below in
     let w : length x.first ≡ i = x.index in
-    let list : mine c es ≡ copying from to x.first ++ acts.Load (from + i) x.value ∷ ([] ++ acts.Store (to + i) x.value ∷ (copying (from + i + 1) (to + i + 1) x.later ++ rest)) =
+    let list : mine is_of_word c es ≡ copying from to x.first ++ acts.Load (from + i) x.value ∷ ([] ++ acts.Store (to + i) x.value ∷ (copying (from + i + 1) (to + i + 1) x.later ++ rest)) =
         sym (mine_is s c m es) ∙ (own ∙ (ap (λ (vs : List ℕ). copying from to vs ++ rest) x.is
         ∙ (ap (λ (l : List Act). l ++ rest) (copying-append from to x.first (x.value ∷ x.later))
         ∙ (ap (λ (k : ℕ). (copying from to x.first ++ copying (from + k) (to + k) (x.value ∷ x.later)) ++ rest) w
         ∙ append_assoc3 (copying from to x.first) (acts.Load (from + i) x.value) (acts.Store (to + i) x.value) (copying (from + i + 1) (to + i + 1) x.later) rest)))) in
-    let a = split c es (copying from to x.first) (acts.Load (from + i) x.value) ([] ++ acts.Store (to + i) x.value ∷ (copying (from + i + 1) (to + i + 1) x.later ++ rest)) list in
-    let b = split c a.later [] (acts.Store (to + i) x.value) (copying (from + i + 1) (to + i + 1) x.later ++ rest) a.behind in
+    let a = split is_of_word c es (copying from to x.first) (acts.Load (from + i) x.value) ([] ++ acts.Store (to + i) x.value ∷ (copying (from + i + 1) (to + i + 1) x.later ++ rest)) list in
+    let b = split is_of_word c a.later [] (acts.Store (to + i) x.value) (copying (from + i + 1) (to + i + 1) x.later ++ rest) a.behind in
     let k1 = configuration_after s m a.first in
     let all : may_all_follow s m (a.first ++ a.entry ∷ a.later) ≡ true = subst (λ (l : List Entry). may_all_follow s m l ≡ true) a.is legal in
     let p = legal_parts s m a.first (a.entry ∷ a.later) all in
@@ -235,7 +236,7 @@ copies_keep s c m es from to values rest i legal own below apart none others_fro
     let ot3 = others-append c (to + i) b.first (b.entry ∷ b.later) (subst (λ (l : List Entry). is_stored_by_others c (to + i) l ≡ false) b.is ot2) in
     let ot4 = (or_parts (not (eqb b.entry.caller c) && is_store_to (to + i) b.entry.act) (is_stored_by_others c (to + i) b.later) ot3.1).1 in
     -- up to the Load the word is as it was
-    let first_misses : list_any (is_store_to (from + i)) (mine c a.first) ≡ false =
+    let first_misses : list_any (is_store_to (from + i)) (mine is_of_word c a.first) ≡ false =
         ap (list_any (is_store_to (from + i))) a.before ∙ copy_misses from to x.first (from + i) (λ j l e. apart j (subst (λ (n : ℕ). j < n) w l) e) in
     let before : k1.state.words (from + i) ≡ m.state.words (from + i) = stays s c m a.first (from + i) first_misses of.0 in
     let loaded : k1.state.words (from + i) ≡ x.value = load_tells s k1 a.entry (from + i) x.value a.act q.0 in
@@ -243,7 +244,7 @@ copies_keep s c m es from to values rest i legal own below apart none others_fro
     let k2 = configuration_after s (after s k1 a.entry) b.first in
     let stored : (after s k2 b.entry).state.words (to + i) ≡ x.value =
         word_step s k2 b.entry (to + i) ∙ (ap (word_after (to + i) (k2.state.words (to + i))) b.act ∙ (let z = eq-eqb (to + i) (to + i) refl in rw z refl)) in
-    let later_misses : list_any (is_store_to (to + i)) (mine c b.later) ≡ false =
+    let later_misses : list_any (is_store_to (to + i)) (mine is_of_word c b.later) ≡ false =
         ap (list_any (is_store_to (to + i))) b.behind
         ∙ any-append-false (is_store_to (to + i)) (copying (from + i + 1) (to + i + 1) x.later) rest (copy_misses (from + i + 1) (to + i + 1) x.later (to + i) (λ j l e. omega (arith, e))) none in
     let end = stays s c (after s k2 b.entry) b.later (to + i) later_misses ot4 in
@@ -284,12 +285,12 @@ append_again (x ∷ xs) ys zs = ap (λ (l : List Act). x ∷ l) (append_again xs
 
 pub zeroes_stay : ZeroesStay
 zeroes_stay s c m es first word count i own below others =
-    let a = split c es (first ++ zeros true word i) (acts.Store (word + i) 0) (zeros true (word + i + 1) (count - (i + 1)))
+    let a = split is_of_word c es (first ++ zeros true word i) (acts.Store (word + i) 0) (zeros true (word + i + 1) (count - (i + 1)))
         (sym (mine_is s c m es) ∙ (own ∙ (ap (λ (l : List Act). first ++ l) (zeros_at word count i below) ∙ append_again first (zeros true word i) (acts.Store (word + i) 0 ∷ zeros true (word + i + 1) (count - (i + 1)))))) in
     let k1 = configuration_after s m a.first in
     let o = others-append c (word + i) a.first (a.entry ∷ a.later) (subst (λ (l : List Entry). is_stored_by_others c (word + i) l ≡ false) a.is others) in
     let o2 = (or_parts (not (eqb a.entry.caller c) && is_store_to (word + i) a.entry.act) (is_stored_by_others c (word + i) a.later) o.1).1 in
-    let misses : list_any (is_store_to (word + i)) (mine c a.later) ≡ false = ap (list_any (is_store_to (word + i))) a.behind ∙ zeros_miss true (word + i + 1) (count - (i + 1)) (word + i) (omega arith) in
+    let misses : list_any (is_store_to (word + i)) (mine is_of_word c a.later) ≡ false = ap (list_any (is_store_to (word + i))) a.behind ∙ zeros_miss true (word + i + 1) (count - (i + 1)) (word + i) (omega arith) in
     let stored : (after s k1 a.entry).state.words (word + i) ≡ 0 =
         word_step s k1 a.entry (word + i) ∙ (ap (word_after (word + i) (k1.state.words (word + i))) a.act ∙ (let z = eq-eqb (word + i) (word + i) refl in rw z refl)) in
     ap (λ (k : Configuration). k.state.words (word + i)) (ap (configuration_after s m) a.is ∙ configuration-append s m a.first (a.entry ∷ a.later))

@@ -3,3 +3,4 @@ pub mod Within
 pub mod Blocks
 pub mod Spans
 pub mod Told
+pub mod Kept

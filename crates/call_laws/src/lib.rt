@@ -5,6 +5,7 @@ ghost use Rattle.call_laws.specs.Words.{WordsChangeByStores, CopiesKeep, ZeroesS
 ghost use Rattle.call_laws.specs.Blocks.{Taking, Sizing, Resizing, Giving, Dropping, Loading, Storing, PlacingLarge, PlacingInGap, RefusingLarge, RefusingBack, RefusingVs, FindingNone};
 ghost use Rattle.call_laws.specs.Spans.{AllocationPlaces, ReallocationPlaces, PlacingBack, ReservingBack, DroppingBack, PlacingInSpan, ReservingSpan, EndingSpan, Freeing, FreeingBack};
 ghost use Rattle.call_laws.specs.Told.{OwnActsAnswer, FirstIsBefore, FindingStays};
+ghost use Rattle.call_laws.specs.Kept.{ReallocationKeeps};
 
 /// A data word changes by Stores alone.
 pub fn words_change_by_stores()
@@ -154,4 +155,9 @@ pub fn first_is_before()
 /// What a caller finds of a block that is open to it alone stays.
 pub fn finding_stays()
     ensures { FindingStays }
+{}
+
+/// A reallocation keeps the words of its block.
+pub fn reallocation_keeps()
+    ensures { ReallocationKeeps }
 {}
