@@ -7,3 +7,4 @@ pub mod Agreement
 pub mod Undisturbed
 pub mod Revealed
 pub mod Homes
+pub mod Moments

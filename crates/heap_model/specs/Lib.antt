@@ -13,7 +13,10 @@ pub mod Legal
 pub mod History
 pub mod Agreement
 pub mod Alone
+pub mod Moments
 pub mod Shape
+pub mod Contents
+pub mod Served
 pub mod Serial
 pub mod Layout
 pub mod Layers

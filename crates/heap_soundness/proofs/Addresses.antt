@@ -48,7 +48,7 @@ find_append t (x ∷ xs) ys f g = elim (cases_Bool (t x)) [
   | inr e ↦ rw e (find_append t xs ys (λ p i. f p (inr i)) g)
 ]
 
-in_parts : {A : Type 0} (x : A) (xs ys : List A) → IsOneOf x (xs ++ ys) → IsOneOf x xs ⊎ IsOneOf x ys
+pub in_parts : {A : Type 0} (x : A) (xs ys : List A) → IsOneOf x (xs ++ ys) → IsOneOf x xs ⊎ IsOneOf x ys
 in_parts x [] ys i = inr i
 in_parts x (y ∷ xs) ys (inl e) = inl (inl e)
 in_parts x (y ∷ xs) ys (inr i) = elim (in_parts x xs ys i) [ inl j ↦ inl (inr j) | inr j ↦ inr j ]

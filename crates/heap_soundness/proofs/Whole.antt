@@ -85,13 +85,13 @@ all_map P Q [] f a = tt
 all_map P Q (p ∷ ps) f a = (f p a.0, all_map P Q ps f a.1)
 
 module _ (s : Setting) (m : Configuration) (w : Keeps s m) where
-  in_vs : AllByRecursion (LiesInSpan m.state.back.area.spans kinds.Vs) m.state.vs.places
+  pub in_vs : AllByRecursion (LiesInSpan m.state.back.area.spans kinds.Vs) m.state.vs.places
   in_vs = all_map (λ p. IsInVs m.state.back.area.spans p.start p.granules) (LiesInSpan m.state.back.area.spans kinds.Vs) m.state.vs.places (λ p h. record { span = h.span; there = h.there; is = h.kind; low = let b = h.behind in omega arith; high = h.before }) w.heap.vs.places
 
-  in_lfh : AllByRecursion (LiesInSpan m.state.back.area.spans kinds.Lfh) m.state.lfh
+  pub in_lfh : AllByRecursion (LiesInSpan m.state.back.area.spans kinds.Lfh) m.state.lfh
   in_lfh = all_map (λ p. IsInLfh m.state.back.area.spans p.start p.granules) (LiesInSpan m.state.back.area.spans kinds.Lfh) m.state.lfh (λ p h. let e = lfh_end m.state.back.area.spans p.start p.granules (bucket_pages_of s m w.of_kinds) h in record { span = h.span; there = h.there; is = h.kind; low = let b = e.0 in omega arith; high = e.1 }) w.heap.lfh.places
 
-  in_back : AllByRecursion (LiesInSpan m.state.back.area.spans kinds.Back) m.state.back.places
+  pub in_back : AllByRecursion (LiesInSpan m.state.back.area.spans kinds.Back) m.state.back.places
   in_back = all_map (λ p. IsInBack m.state.back.area.spans p.start p.granules) (LiesInSpan m.state.back.area.spans kinds.Back) m.state.back.places (λ p h. record { span = h.span; there = h.there; is = h.kind; low = let b = h.begins in omega arith; high = let b = h.begins in let c = h.whole in omega arith }) w.heap.back.places
 
   large_apart : (kind : Kind) (ps : List Place) → AllByRecursion (LiesInSpan m.state.back.area.spans kind) ps → AllByRecursion (λ p. AllByRecursion (AreApart p) m.state.large) ps

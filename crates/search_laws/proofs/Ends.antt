@@ -1,5 +1,5 @@
 -- How a call of caller 0 ends, act by act.
-use Rattle.std.proofs.Common.{◌≡◌, ℕ, zero, suc, Bool, true, false, ◌&&◌, not, List, [], ◌∷◌, ◌++◌, Option, is_some, refl, sym, ap, subst, ◌∙◌, eqb, inl, inr, if◌then◌else◌}
+use Rattle.std.proofs.Common.{◌≡◌, ℕ, zero, suc, Bool, true, false, ◌&&◌, not, List, [], ◌∷◌, ◌++◌, Option, None, is_some, refl, sym, ap, subst, ◌∙◌, eqb, inl, inr, if◌then◌else◌}
 use Rattle.std.specs.List.{list_all}
 use Rattle.std.proofs.Math.Path.{fun_ext}
 use Rattle.std.proofs.lemmas.Bool.{cases_Bool, and_from, and_parts, eqb-true}
@@ -14,8 +14,11 @@ use Rattle.heap_model.specs.CallState.{CallState, Configuration, SpanHistory, De
 use Rattle.heap_model.specs.Search.{SearchKey}
 use Rattle.heap_model.specs.Legal.{may_follow, after, is_begin}
 use Rattle.heap_model.specs.Alone.{by_zero, configuration_by, may_all_come}
-use Rattle.heap_model.specs.Serial.{IsIdle, IsAnswered}
-use Rattle.heap_model.specs.Shape.{HasShape, shape_of, is_left_out}
+use Rattle.heap_model.specs.Moments.{moments_by, acts_of}
+use Rattle.heap_model.specs.Shape.{Replied, HasActs, shape_of, is_left_out}
+use Rattle.heap_model.specs.Served.{IsOneCall, GetsReply, by_depth}
+use Rattle.heap_model.specs.Serial.{IsIdle}
+use Rattle.heap_model.proofs.Moments.{acts_by, told_by_acts}
 use Rattle.serial_laws.specs.OneCall.{IsAtRest, Completes}
 use Rattle.search_laws.specs.Reading.{word_behind, picked_at, reads_from, reads_of, block_found, pass_reads}
 use Rattle.search_laws.specs.Laws.{search_of, OnlySearch}
@@ -53,17 +56,32 @@ is_silent act = is_left_out act && not (is_begin act)
 shape_behind : (act : Act) (rest : List Act) → is_silent act ≡ true → shape_of (act ∷ rest) ≡ shape_of rest
 shape_behind act rest h = let e = (and_parts (is_left_out act) (not (is_begin act)) h).0 in rw e refl
 
-answered_behind : (call : Call) (reply : Reply) (act : Act) (rest : List Act) → is_silent act ≡ true → IsAnswered call reply rest → IsAnswered call reply (act ∷ rest)
+-- These acts behind the Begin of a call are its own, and of the shape of this reply.
+pub record AreOf (call : Call) (reply : Reply) (rest : List Act) : Type 0 where
+  pub own : list_all (λ act. not (is_begin act)) rest ≡ true
+  pub shape : HasActs call (Replied reply) (shape_of rest)
+
+answered_behind : (call : Call) (reply : Reply) (act : Act) (rest : List Act) → is_silent act ≡ true → AreOf call reply rest → AreOf call reply (act ∷ rest)
 answered_behind call reply act rest h a = record {
   own = and_from (not (is_begin act)) (list_all (λ act. not (is_begin act)) rest) (and_parts (is_left_out act) (not (is_begin act)) h).1 a.own;
-  shape = subst (HasShape call reply) (sym (shape_behind act rest h)) a.shape;
+  shape = subst (HasActs call (Replied reply)) (sym (shape_behind act rest h)) a.shape;
 }
+
+answered_from : (s : Setting) (m : Configuration) (call : Call) (reply : Reply) (rest : List Act) → AreOf call reply rest → GetsReply s 0 call reply (moments_by s m (acts.Begin call ∷ rest))
+answered_from s m call reply rest a =
+    let xs = moments_by s m (acts.Begin call ∷ rest) in
+    let is : acts.Begin call ∷ rest ≡ acts_of xs = sym (acts_by s m (acts.Begin call ∷ rest)) in
+    record {
+      one = subst (IsOneCall call) is (refl, a.own);
+      shape = told_by_acts s 0 call (Replied reply) xs (subst (λ (l : List Act). HasActs call (Replied reply) (shape_of l)) is a.shape);
+    }
 
 -- From here some acts complete the call, leave all at rest, and leave a configuration of which this holds.
 pub record EndsSo (s : Setting) (m : Configuration) (call : Call) (reply : Reply) (Left : Configuration → Type 0) : Type 0 where
   pub rest : List Act
+  pub steps : (depth : ℕ) → by_depth depth call ≡ None
   pub legal : may_all_come s m rest ≡ true
-  pub answered : IsAnswered call reply rest
+  pub answered : AreOf call reply rest
   pub idle : IsIdle (configuration_by s m rest)
   pub at_rest : IsAtRest (configuration_by s m rest)
   pub only : Left (configuration_by s m rest)
@@ -75,6 +93,7 @@ module _ (s : Setting) (call : Call) (reply : Reply) (Left : Configuration → T
   pub ends_act : (m : Configuration) (act : Act) → is_silent act ≡ true → may_follow s m (by_zero act) ≡ true → Ends (after s m (by_zero act)) → Ends m
   ends_act m act h l e = record {
     rest = act ∷ e.rest;
+    steps = e.steps;
     legal = and_from (may_follow s m (by_zero act)) (may_all_come s (after s m (by_zero act)) e.rest) l e.legal;
     answered = answered_behind call reply act e.rest h e.answered;
     idle = e.idle;
@@ -92,14 +111,15 @@ module _ (s : Setting) (call : Call) (reply : Reply) (Left : Configuration → T
   -- .. from its Begin on
   pub begins_so : (m : Configuration) → may_follow s m (by_zero (acts.Begin call)) ≡ true → (e : Ends (after s m (by_zero (acts.Begin call)))) → Completes s m call reply e.rest
   begins_so m l e = record {
+    steps = e.steps;
     legal = and_from (may_follow s m (by_zero (acts.Begin call))) (may_all_come s (after s m (by_zero (acts.Begin call))) e.rest) l e.legal;
-    answered = e.answered;
+    answered = answered_from s m call reply e.rest e.answered;
     idle = e.idle;
   }
 
   -- a weaker claim about what is left
   pub ends_weaker : (Less : Configuration → Type 0) → ((n : Configuration) → Left n → Less n) → (m : Configuration) → Ends m → EndsSo s m call reply Less
-  ends_weaker Less f m e = record { rest = e.rest; legal = e.legal; answered = e.answered; idle = e.idle; at_rest = e.at_rest; only = f (configuration_by s m e.rest) e.only }
+  ends_weaker Less f m e = record { rest = e.rest; steps = e.steps; legal = e.legal; answered = e.answered; idle = e.idle; at_rest = e.at_rest; only = f (configuration_by s m e.rest) e.only }
 
 -- .. and have changed the front end so since another configuration
 abbrev pub EndsFrom : Setting → Configuration → Configuration → Call → Reply → Area → List Place → (ℕ → ℕ → Option ℕ) → ℕ → Type 0

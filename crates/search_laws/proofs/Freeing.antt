@@ -68,7 +68,8 @@ module _ (s : Setting) (back : BackPart) (vs : VsPart) (lfh large : List Place) 
               (come s m2 (acts.Take a size) r3 (rw (found, same) refl)
               (come s m3 (acts.Drop a) (acts.Leave ∷ []) (rw (found, hand) refl)
               (come s m4 acts.Leave [] (rw (found, hand, gone) (rw (no_lfh, no_vs, no_back, no_large) refl)) refl))));
-          answered = record { own = refl; shape = (refl, refl) };
+          steps = λ depth. refl;
+          answered = record { one = (refl, refl); shape = (refl, refl) };
           idle = record { outside = refl; holds = refl; hands = left; demand = refl };
         };
         at_rest = record { rest = refl; hands = left; whole = rw (found, hand) whole; used = rw (found, hand) used };
@@ -100,7 +101,8 @@ module _ (s : Setting) (back : BackPart) (vs : VsPart) (lfh large : List Place) 
               (come s m1 acts.Enter r2 refl
               (come s m2 (acts.Sized a size) (acts.Leave ∷ []) (rw (found, same) refl)
               (come s m3 acts.Leave [] (ap is_empty empty) refl)));
-          answered = record { own = refl; shape = (refl, refl) };
+          steps = λ depth. refl;
+          answered = record { one = (refl, refl); shape = (refl, refl) };
           idle = record { outside = refl; holds = refl; hands = empty; demand = refl };
         };
         at_rest = record { rest = refl; hands = empty; whole = whole; used = used };

@@ -148,6 +148,7 @@ module _ (s : Setting) (back : BackPart) (vs : VsPart) (lfh large : List Place) 
             come s m (acts.Place start granules layers.Lfh) r1 (rw (clear, is_bucket, active) any)
             (come s m1 (acts.Give start n) (acts.Leave ∷ []) (rw hand_is suits)
             (come s m2 acts.Leave [] (ap is_empty left) refl));
+        steps = λ depth. refl;
         answered = record { own = refl; shape = (refl, refl) };
         idle = record { outside = refl; holds = refl; hands = left; demand = refl };
         at_rest = record { rest = refl; hands = left; whole = whole_again lfh vs.places back.places large start granules n none back.area.spans whole; used = used_again lfh vs.places back.places large start granules n none back.area.spans used };
@@ -188,6 +189,7 @@ module _ (s : Setting) (back : BackPart) (vs : VsPart) (lfh large : List Place) 
             (come s m1 (acts.Give start n) r2 (rw hand_is suits)
             (come s m2 (acts.GiveLock whats.Back) (acts.Leave ∷ []) again
             (come s m3 acts.Leave [] (ap is_empty left) refl)));
+        steps = λ depth. refl;
         answered = record { own = refl; shape = (refl, refl) };
         idle = record { outside = refl; holds = refl; hands = left; demand = refl };
         at_rest = record { rest = refl; hands = left; whole = again; used = used_again lfh vs.places back.places large start granules n none back.area.spans used };

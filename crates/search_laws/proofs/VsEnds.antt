@@ -104,6 +104,7 @@ module _ (s : Setting) (back : BackPart) (vs : VsPart) (lfh large : List Place) 
               (come s m2 (acts.GiveLock whats.Back) r3 kept
               (come s m3 (acts.GiveLock whats.Vs) (acts.Leave ∷ []) again
               (come s m4 acts.Leave [] (ap is_empty left) refl))));
+          steps = λ depth. refl;
           answered = record { own = refl; shape = (refl, refl) };
           idle = record { outside = refl; holds = refl; hands = left; demand = refl };
           at_rest = record { rest = refl; hands = left; whole = kept; used = again };
@@ -163,6 +164,7 @@ module _ (s : Setting) (back : BackPart) (vs : VsPart) (lfh large : List Place) 
               (come s m3 (acts.GiveLock whats.Back) r4 kept
               (come s m4 (acts.GiveLock whats.Vs) (acts.Leave ∷ []) again
               (come s m5 acts.Leave [] (ap is_empty left) refl)))));
+          steps = λ depth. refl;
           answered = record { own = refl; shape = (refl, refl) };
           idle = record { outside = refl; holds = refl; hands = left; demand = refl };
           at_rest = record { rest = refl; hands = left; whole = kept; used = again };
@@ -198,6 +200,7 @@ module _ (s : Setting) (back : BackPart) (vs : VsPart) (lfh large : List Place) 
               (come s m1 (acts.GiveLock whats.Back) r2 whole
               (come s m2 (acts.GiveLock whats.Vs) (acts.Leave ∷ []) used
               (come s m3 acts.Leave [] (ap is_empty none) refl)));
+          steps = λ depth. refl;
           answered = record { own = refl; shape = refl };
           idle = record { outside = refl; holds = refl; hands = none; demand = refl };
           at_rest = record { rest = refl; hands = none; whole = whole; used = used };

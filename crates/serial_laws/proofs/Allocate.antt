@@ -27,7 +27,7 @@ use Rattle.serial_laws.proofs.Places.{all_inserted}
 pub come : (s : Setting) (m : Configuration) (act : Act) (rest : List Act) → may_follow s m (by_zero act) ≡ true → may_all_come s (after s m (by_zero act)) rest ≡ true → may_all_come s m (act ∷ rest) ≡ true
 come s m act rest h k = and_from (may_follow s m (by_zero act)) (may_all_come s (after s m (by_zero act)) rest) h k
 
-paged_is : (r : Route) → is_paged r ≡ true → r ≡ Paged
+pub paged_is : (r : Route) → is_paged r ≡ true → r ≡ Paged
 paged_is Small h = absurd (false≢true h)
 paged_is Variable h = absurd (false≢true h)
 paged_is Paged h = refl
@@ -183,7 +183,8 @@ module _ (s : Setting) (back : BackPart) (vs : VsPart) (lfh large : List Place) 
               (come s m5 a5 r6 (rw there (gives n paged))
               (come s m6 (acts.GiveLock whats.Back) (acts.Leave ∷ []) again
               (come s m7 acts.Leave [] (ap is_empty left) refl)))))));
-          answered = record { own = refl; shape = (refl, refl) };
+          steps = λ depth. refl;
+          answered = record { one = (refl, refl); shape = (refl, refl) };
           idle = record { outside = refl; holds = refl; hands = left; demand = refl };
         };
         at_rest = record { rest = refl; hands = left; whole = again; used = kept };
@@ -240,7 +241,8 @@ module _ (s : Setting) (back : BackPart) (vs : VsPart) (lfh large : List Place) 
               (come s m5 a5 r6 (rw there (gives n paged))
               (come s m6 (acts.GiveLock whats.Back) (acts.Leave ∷ []) again
               (come s m7 acts.Leave [] (ap is_empty left) refl))))))));
-          answered = record { own = refl; shape = (refl, refl) };
+          steps = λ depth. refl;
+          answered = record { one = (refl, refl); shape = (refl, refl) };
           idle = record { outside = refl; holds = refl; hands = left; demand = refl };
         };
         at_rest = record { rest = refl; hands = left; whole = again; used = kept };
@@ -278,7 +280,8 @@ module _ (s : Setting) (back : BackPart) (vs : VsPart) (lfh large : List Place) 
               (come s m3 (acts.NoFit n) r4 (rw (same, route, none) refl)
               (come s m4 (acts.GiveLock whats.Back) (acts.Leave ∷ []) whole
               (come s m5 acts.Leave [] (ap is_empty empty) refl)))));
-          answered = record { own = refl; shape = refl };
+          steps = λ depth. refl;
+          answered = record { one = (refl, refl); shape = refl };
           idle = record { outside = refl; holds = refl; hands = empty; demand = refl };
         };
         at_rest = record { rest = refl; hands = empty; whole = whole; used = used };

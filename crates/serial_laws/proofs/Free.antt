@@ -74,7 +74,8 @@ module _ (s : Setting) (back : BackPart) (vs : VsPart) (lfh large : List Place) 
               (come s m5 (acts.Unspan (a / 4096)) r6 (rw (found, hand, gone, page, spanned, kind, unused) refl)
               (come s m6 (acts.GiveLock whats.Back) (acts.Leave ∷ []) (rw (found, hand, gone) still)
               (come s m7 acts.Leave [] (ap is_empty left) refl)))))));
-          answered = record { own = refl; shape = (refl, refl) };
+          steps = λ depth. refl;
+          answered = record { one = (refl, refl); shape = (refl, refl) };
           idle = record { outside = refl; holds = refl; hands = left; demand = refl };
         };
         at_rest = record { rest = refl; hands = left; whole = rw (found, hand, gone) still; used = rw (found, hand) kept };
@@ -120,7 +121,8 @@ module _ (s : Setting) (back : BackPart) (vs : VsPart) (lfh large : List Place) 
               (come s m3 (acts.Sized a size) r4 (rw (found, same) refl)
               (come s m4 (acts.GiveLock whats.Back) (acts.Leave ∷ []) whole
               (come s m5 acts.Leave [] (ap is_empty empty) refl)))));
-          answered = record { own = refl; shape = (refl, refl) };
+          steps = λ depth. refl;
+          answered = record { one = (refl, refl); shape = (refl, refl) };
           idle = record { outside = refl; holds = refl; hands = empty; demand = refl };
         };
         at_rest = record { rest = refl; hands = empty; whole = whole; used = used };
@@ -145,7 +147,8 @@ module _ (s : Setting) (back : BackPart) (vs : VsPart) (lfh large : List Place) 
               (come s m1 acts.Enter r2 refl
               (come s m2 (acts.NotLive a) (acts.Leave ∷ []) (finds_none a h)
               (come s m3 acts.Leave [] (ap is_empty empty) refl)));
-          answered = record { own = refl; shape = refl };
+          steps = λ depth. refl;
+          answered = record { one = (refl, refl); shape = refl };
           idle = record { outside = refl; holds = refl; hands = empty; demand = refl };
         };
         at_rest = record { rest = refl; hands = empty; whole = whole; used = used };
@@ -166,7 +169,8 @@ module _ (s : Setting) (back : BackPart) (vs : VsPart) (lfh large : List Place) 
               (come s m1 acts.Enter r2 refl
               (come s m2 (acts.NotLive a) (acts.Leave ∷ []) (finds_none a h)
               (come s m3 acts.Leave [] (ap is_empty empty) refl)));
-          answered = record { own = refl; shape = refl };
+          steps = λ depth. refl;
+          answered = record { one = (refl, refl); shape = refl };
           idle = record { outside = refl; holds = refl; hands = empty; demand = refl };
         };
         at_rest = record { rest = refl; hands = empty; whole = whole; used = used };

@@ -51,7 +51,7 @@ count_is spaces k r h = go (least is_smaller (fitting k spaces)) (λ q. least_fi
 
 ---- What the tests of the acts come to
 
-sized : (n : ℕ) → (is_small (route_of n) || is_variable (route_of n)) ≡ true → n ≤ 131072
+pub sized : (n : ℕ) → (is_small (route_of n) || is_variable (route_of n)) ≡ true → n ≤ 131072
 sized n h = elim (cases_Bool (leb n 131072)) [
   | inl e ↦ leb-true n 131072 e
   | inr e ↦
@@ -78,7 +78,7 @@ suits_it n r h (inr e) =
     let d = eq-eqb r.count (units_of n + 1) e in
     rw (a, b, d) (or_right (eqb r.count (units_of n)) true refl)
 
-no_other : (o : Option ℕ) (test : ℕ → Bool) → for_some o test ≡ false → not (for_some o (λ b. test b && true)) ≡ true
+pub no_other : (o : Option ℕ) (test : ℕ → Bool) → for_some o test ≡ false → not (for_some o (λ b. test b && true)) ≡ true
 no_other None test h = refl
 no_other (Some b) test h = rw h refl
 
@@ -101,7 +101,7 @@ spans s area spaces first n none f l =
     rw (f, a, b, none, d) refl
 
 -- a small size has a bucket
-has_bucket : (n : ℕ) → leb n 16368 ≡ true → (b : ℕ) × (bucket_of n ≡ Some b)
+pub has_bucket : (n : ℕ) → leb n 16368 ≡ true → (b : ℕ) × (bucket_of n ≡ Some b)
 has_bucket n h =
     let l = leb-true n 16368 h in
     let m = max 1 n in
@@ -225,7 +225,8 @@ module _ (s : Setting) (back : BackPart) (vs : VsPart) (lfh large : List Place) 
               (come s m4 a4 r5 (rw there (suits_it n r fits_layer.size (count_is _ (units_of n) r fits)))
               (come s m5 (acts.GiveLock whats.Vs) (acts.Leave ∷ []) again
               (come s m6 acts.Leave [] (ap is_empty left) refl))))));
-          answered = record { own = refl; shape = (refl, refl) };
+          steps = λ depth. refl;
+          answered = record { one = (refl, refl); shape = (refl, refl) };
           idle = record { outside = refl; holds = refl; hands = left; demand = refl };
         };
         at_rest = record { rest = refl; hands = left; whole = whole_again lfh vs.places back.places large r n empty back.area.spans whole; used = again };
@@ -283,7 +284,8 @@ module _ (s : Setting) (back : BackPart) (vs : VsPart) (lfh large : List Place) 
               (come s m7 (acts.GiveLock whats.Back) (acts.GiveLock whats.Vs ∷ acts.Leave ∷ []) kept
               (come s m8 (acts.GiveLock whats.Vs) (acts.Leave ∷ []) again
               (come s m9 acts.Leave [] (ap is_empty left) refl)))))))));
-          answered = record { own = refl; shape = (refl, refl) };
+          steps = λ depth. refl;
+          answered = record { one = (refl, refl); shape = (refl, refl) };
           idle = record { outside = refl; holds = refl; hands = left; demand = refl };
         };
         at_rest = record { rest = refl; hands = left; whole = kept; used = again };
@@ -347,7 +349,8 @@ module _ (s : Setting) (back : BackPart) (vs : VsPart) (lfh large : List Place) 
               (come s m7 (acts.GiveLock whats.Back) (acts.GiveLock whats.Vs ∷ acts.Leave ∷ []) kept
               (come s m8 (acts.GiveLock whats.Vs) (acts.Leave ∷ []) again
               (come s m9 acts.Leave [] (ap is_empty left) refl))))))))));
-          answered = record { own = refl; shape = (refl, refl) };
+          steps = λ depth. refl;
+          answered = record { one = (refl, refl); shape = (refl, refl) };
           idle = record { outside = refl; holds = refl; hands = left; demand = refl };
         };
         at_rest = record { rest = refl; hands = left; whole = kept; used = again };
@@ -391,7 +394,8 @@ module _ (s : Setting) (back : BackPart) (vs : VsPart) (lfh large : List Place) 
               (come s m5 (acts.GiveLock whats.Back) (acts.GiveLock whats.Vs ∷ acts.Leave ∷ []) whole
               (come s m6 (acts.GiveLock whats.Vs) (acts.Leave ∷ []) used
               (come s m7 acts.Leave [] (ap is_empty empty) refl)))))));
-          answered = record { own = refl; shape = refl };
+          steps = λ depth. refl;
+          answered = record { one = (refl, refl); shape = refl };
           idle = record { outside = refl; holds = refl; hands = empty; demand = refl };
         };
         at_rest = record { rest = refl; hands = empty; whole = whole; used = used };

@@ -84,7 +84,8 @@ module _ (s : Setting) (back : BackPart) (vs : VsPart) (lfh large : List Place) 
               (come s m4 (acts.Drop a) r5 (rw (found, hand) refl)
               (come s m5 (acts.GiveLock whats.Vs) (acts.Leave ∷ []) (rw (found, hand, out) still)
               (come s m6 acts.Leave [] (ap is_empty clear) refl))))));
-          answered = record { own = refl; shape = (refl, refl) };
+          steps = λ depth. refl;
+          answered = record { one = (refl, refl); shape = (refl, refl) };
           idle = record { outside = refl; holds = refl; hands = clear; demand = refl };
         };
         at_rest = record { rest = refl; hands = clear; whole = rw (found, hand) whole; used = rw (found, hand, out) still };
@@ -141,7 +142,8 @@ module _ (s : Setting) (back : BackPart) (vs : VsPart) (lfh large : List Place) 
               (come s m7 (acts.GiveLock whats.Back) (acts.GiveLock whats.Vs ∷ acts.Leave ∷ []) (rw (found, hand) kept)
               (come s m8 (acts.GiveLock whats.Vs) (acts.Leave ∷ []) (rw (found, hand, out) still)
               (come s m9 acts.Leave [] (ap is_empty clear) refl)))))))));
-          answered = record { own = refl; shape = (refl, refl) };
+          steps = λ depth. refl;
+          answered = record { one = (refl, refl); shape = (refl, refl) };
           idle = record { outside = refl; holds = refl; hands = clear; demand = refl };
         };
         at_rest = record { rest = refl; hands = clear; whole = rw (found, hand) kept; used = rw (found, hand, out) still };
@@ -179,7 +181,8 @@ module _ (s : Setting) (back : BackPart) (vs : VsPart) (lfh large : List Place) 
               (come s m3 (acts.Sized a size) r4 (rw (found, same) refl)
               (come s m4 (acts.GiveLock whats.Vs) (acts.Leave ∷ []) used
               (come s m5 acts.Leave [] (ap is_empty empty) refl)))));
-          answered = record { own = refl; shape = (refl, refl) };
+          steps = λ depth. refl;
+          answered = record { one = (refl, refl); shape = (refl, refl) };
           idle = record { outside = refl; holds = refl; hands = empty; demand = refl };
         };
         at_rest = record { rest = refl; hands = empty; whole = whole; used = used };

@@ -1,5 +1,5 @@
 -- Calls of one caller, one after another, each from the configuration that the one before left.
-use Rattle.std.specs.Prelude.{◌≡◌, ℕ, ◌+◌, true, List, [], ◌∷◌}
+use Rattle.std.specs.Prelude.{◌≡◌, ℕ, ◌+◌, true, List, [], ◌∷◌, None}
 use Rattle.heap_model.specs.declared.Call.{Call}
 use Rattle.heap_model.specs.declared.Act.{Act}
 use Rattle.heap_model.specs.declared.Act.TheVariants as acts
@@ -11,7 +11,9 @@ use Rattle.heap_model.specs.declared.What.TheVariants as whats
 use Rattle.heap_model.specs.Legal.{leaves_whole, searched_once}
 use Rattle.heap_model.specs.History.{first_configuration}
 use Rattle.heap_model.specs.Alone.{alone, configuration_by, may_all_come, at_rest}
-use Rattle.heap_model.specs.Serial.{IsIdle, IsAnswered, IsSerial}
+use Rattle.heap_model.specs.Moments.{moments_by}
+use Rattle.heap_model.specs.Served.{GetsReply, by_depth}
+use Rattle.heap_model.specs.Serial.{IsIdle, IsSerial}
 
 -- Nobody is at the gate, no lock is held, nothing is demanded, caller 0 has nothing in hand, and each span of the back end and of the
 -- variable-size layer has a place.
@@ -25,10 +27,11 @@ pub record IsAtRest (m : Configuration) : Type 0 where
 abbrev pub searches_of : Configuration → ℕ
 searches_of m = (m.now.calls 0).searches + searched_once (m.now.calls 0).search.stage
 
--- From this configuration the acts behind the Begin of this call may come, and end it with this reply.
+-- From this configuration the acts behind the Begin of this call, which no depth of the heap lock answers, may come, and end it with this reply.
 pub record Completes (s : Setting) (m : Configuration) (call : Call) (reply : Reply) (rest : List Act) : Type 0 where
+  pub steps : (depth : ℕ) → by_depth depth call ≡ None
   pub legal : may_all_come s m (acts.Begin call ∷ rest) ≡ true
-  pub answered : IsAnswered call reply rest
+  pub answered : GetsReply s 0 call reply (moments_by s m (acts.Begin call ∷ rest))
   pub idle : IsIdle (configuration_by s m (acts.Begin call ∷ rest))
 
 -- .. for these calls, one after another

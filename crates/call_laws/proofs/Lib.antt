@@ -1,0 +1,11 @@
+pub mod Words
+pub mod Goes
+pub mod Within
+pub mod Blocks
+pub mod Places
+pub mod Spans
+pub mod TakenBlocks
+pub mod Told
+pub mod Shown
+pub mod Moved
+pub mod KeptWords
