@@ -20,7 +20,7 @@ use Rattle.claim_rule.specs.declared.views.View.{View}
 use Rattle.claim_rule.specs.Shown.{holder_from, back_holder, AreAllShown}
 use Rattle.heap_model.specs.Layers.{LayerState}
 use Rattle.claim_rule.specs.Home.{AreHome}
-use Rattle.claim_rule.specs.Entries.{IsSettingOf, IsLegalWith, is_by, is_named, entry}
+use Rattle.claim_rule.specs.Entries.{IsSettingOf, IsLegalWith, is_by, entry}
 use Rattle.claim_rule.specs.Rule.{KnowsAs, IsRuled, IsReady, view_of}
 use Rattle.claim_rule.specs.Plays.{Goes, Adds, number_of}
 use Rattle.claim_rule.specs.Laws.{ActsLaw, IsOwing}

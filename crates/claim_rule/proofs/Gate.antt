@@ -27,7 +27,7 @@ use Rattle.claim_rule.proofs.Counts.{IsCounted, length-without}
 use Rattle.claim_rule.proofs.Prepared.{SameHomes, homes_kept}
 use Rattle.claim_rule.proofs.Quiet.{SameShown}
 use Rattle.claim_rule.proofs.Words.{all_gate, all_kept}
-use Rattle.claim_rule.proofs.Advance.{before, acts, adds_of, goes_of, role_of}
+use Rattle.claim_rule.proofs.Advance.{before, acts, adds_of, goes_of}
 
 pub one_by : (n : ℕ) (d : Deed) → is_by n (entry n d ∷ []) ≡ true
 one_by n d = ap (λ (b : Bool). b && true) (eq-eqb n n refl)

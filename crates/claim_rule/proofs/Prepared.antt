@@ -18,7 +18,7 @@ use Rattle.heap_model.proofs.Others.{unspan_locks}
 use Rattle.heap_model.proofs.Stable.{same_hand_at, locked_place_at}
 use Rattle.heap_model.specs.declared.Opening.{Opening}
 use Rattle.claim_rule.specs.Shown.{holder_from, held_after, lfh_spans}
-use Rattle.heap_model.specs.Layers.{LayerState, StandsForVs, StandsForBack, StandsForLarge}
+use Rattle.heap_model.specs.Layers.{LayerState}
 use Rattle.claim_rule.specs.Home.{AreHome}
 use Rattle.claim_rule.specs.Entries.{entry, is_by, is_of_lfh, leaves_words, may_prepare, are_prepared}
 use Rattle.claim_rule.proofs.Quiet.{SameShown, same_shown, same_shown_trans, leaves, leaves_gate, leaves_holder}

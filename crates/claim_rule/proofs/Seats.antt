@@ -20,13 +20,12 @@ use Rattle.claim_rule.specs.declared.views.Role.{Role}
 use Rattle.claim_rule.specs.declared.views.Role.TheVariants.{Caller, Root}
 use Rattle.claim_rule.specs.declared.views.View.{View}
 use Rattle.claim_rule.specs.Places.{word_count}
-use Rattle.claim_rule.specs.Shown.{AreAllShown}
+use Rattle.claim_rule.specs.Shown.{AreAllShown, back_holder}
 use Rattle.heap_model.specs.Layers.{LayerState, StandsForVs, StandsForBack, StandsForLarge}
-use Rattle.claim_rule.specs.Entries.{IsSettingOf, IsLegalWith, is_named, have_slots}
+use Rattle.claim_rule.specs.Entries.{IsLegalWith, is_named, have_slots}
 use Rattle.claim_rule.specs.Rule.{IsSeen, are_distinct, KnowsAs, Knows, IsRuled, longer, zero_words, first_lead, first_view, spent_view, relay, next_lead, dealing, dealing_role, dealt, dealt_role, roll_of, told, taken_in, joined_role, view_of}
 use Rattle.claim_rule.specs.Plays.{heard_all, agreed, numbered, number_of}
 use Rattle.claim_rule.proofs.Lists.{prefix_self, prefix_nil, prefix_more, longer_begins, longer_one, own_between, none_between, own_unnamed, named_more, named_rest, none_at_all, setting_less}
-use Rattle.claim_rule.specs.Shown.{back_holder}
 use Rattle.claim_rule.proofs.Holders.{named_holder}
 use Rattle.claim_rule.proofs.Words.{all_made, all_kept}
 use Rattle.claim_rule.proofs.Known.{swapped, grown, seen_none, seen_still, knows_still, nobody}

@@ -1,0 +1,4 @@
+pub mod Claims
+pub mod Sizes
+pub mod Calm
+pub mod Searches

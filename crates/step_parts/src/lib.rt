@@ -1,0 +1,6 @@
+//! What the laws of steps share: the words of a block, what is in hand, and what a caller has seen in its stay.
+#![tactic(auto)]
+
+mod target;
+
+pub use target::{Guards, Seating, Table, Target};
