@@ -25,7 +25,7 @@ use Rattle.claim_rule.specs.Entries.{IsSettingOf, setting_of, entry}
 use Rattle.claim_rule.specs.Rule.{IsRuled, IsReady, ready_after}
 use Rattle.claim_rule.specs.Laws.{IsOwing}
 use Rattle.claim_rule.proofs.Holders.{back_holder_is}
-use Rattle.claim_rule.proofs.Prepared.{homes_kept}
+use Rattle.claim_rule.proofs.Slots.{homes_still, homes_kept}
 use Rattle.claim_rule.proofs.Words.{all_same, all_kept}
 use Rattle.claim_rule.specs.Plays.{number_of}
 use Rattle.claim_rule.proofs.Advance.{before, acts, leaves, adds_of, setting_in, role_of, some_setting, owes_still, holder_behind, setting_back, seen_behind}
@@ -117,7 +117,7 @@ module _ {T : Type 0} (stands : T → LayerState) (o : Opening) (slots id n head
         one_follows s (there s) n deed d.whole c.begun g.ok,
         refl,
         g.shown,
-        homes_kept stands o (after s (there s) (entry n deed)).state (there s).state st.homes (record { locks = refl; vs = λ _. refl; spans = λ _. refl; back = λ _. refl; large = λ _. refl }) d.home,
+        homes_kept stands o (after s (there s) (entry n deed)).state (there s).state st.homes (homes_still _ _ refl refl) d.home,
       )) in (
         a.0,
         keeps,

@@ -38,8 +38,7 @@ use Rattle.claim_rule.specs.Shown.{AreAllShown, lfh_spans, bitmap_word, size_wor
 use Rattle.heap_model.specs.Layers.{LayerState}
 use Rattle.claim_rule.specs.Entries.{IsSettingOf, entry}
 use Rattle.claim_rule.specs.Rule.{IsRuled, IsReady, ready_after}
-use Rattle.heap_model.specs.Ranges.{vs_spans}
-use Rattle.claim_rule.proofs.Prepared.{SameHomes, homes_kept}
+use Rattle.claim_rule.proofs.Slots.{SameHomes, homes_kept, guarded, homes_still}
 use Rattle.claim_rule.proofs.Words.{all_same, all_kept}
 use Rattle.claim_rule.specs.Plays.{number_of}
 use Rattle.claim_rule.proofs.Advance.{before, acts, adds_of, setting_in, setting_back, seen_behind}
@@ -328,7 +327,7 @@ in_all : (st : HeapState) (p : Place) → IsOneOf p st.lfh → IsOneOf p (all_pl
 in_all st p i = in_left p (st.lfh ++ st.vs.places ++ st.back.places) st.large (in_left p (st.lfh ++ st.vs.places) st.back.places (in_left p st.lfh st.vs.places i))
 
 same_homes_lfh : (a b : HeapState) (qs : List Place) → a ≡ with_lfh b qs → SameHomes a b
-same_homes_lfh a b qs e = record { locks = ap (λ (x : HeapState). x.gate.locks) e; vs = λ _. ap (λ (x : HeapState). x.vs) e; spans = λ _. ap (λ (x : HeapState). vs_spans x.back.area) e; back = λ _. ap (λ (x : HeapState). x.back) e; large = λ _. ap (λ (x : HeapState). x.large) e }
+same_homes_lfh a b qs e = homes_still a b (ap (λ (x : HeapState). x.gate.locks) e) (ap guarded e)
 
 live_of : (p : Place) (size : ℕ) → p.status ≡ Live size → is_live_of size p.status ≡ true
 live_of p size e = ap (is_live_of size) e ∙ eq-eqb size size refl

@@ -26,7 +26,8 @@ use Rattle.claim_rule.specs.Plays.{Goes, Adds, number_of}
 use Rattle.claim_rule.specs.Laws.{ActsLaw, IsOwing}
 use Rattle.claim_rule.proofs.Lists.{after-append, follow_join, follow_parts, legal_parts, legal_from, none_between, by-append, named-append, named_by, prefix_self, prefix_more, setting_less}
 use Rattle.claim_rule.proofs.Counts.{IsCounted, counted_after, counted_first, counted_few, owner_few}
-use Rattle.claim_rule.proofs.Prepared.{IsCarried, carried, prepared_by, homes_kept}
+use Rattle.claim_rule.proofs.Prepared.{IsCarried, carried, prepared_by}
+use Rattle.claim_rule.proofs.Slots.{homes_kept}
 use Rattle.claim_rule.proofs.Words.{all_same}
 use Rattle.claim_rule.proofs.Holders.{holder-append}
 use Rattle.claim_rule.proofs.Known.{known_set}

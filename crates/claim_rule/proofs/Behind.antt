@@ -2,11 +2,16 @@
 use Rattle.std.proofs.Common.{◌≡◌, ◌⊎◌, ℕ, ◌+◌, ◌*◌, ◌/◌, ◌%◌, ◌<◌, ◌≤◌, List, [], length, get_or, set, Option, None, sym, ap, ◌∙◌, subst, arith, inl, inr, ⊎_elim, eqb, length-set, get_or-set_same, get_or-set_other, true, refl, Some}
 use Rattle.std.proofs.lemmas.Bool.{cases_Bool, eqb-true, eqb-false}
 use Rattle.heap_model.specs.declared.Limits.{Limits}
-use Rattle.heap_model.specs.State.{Area, State, gate_word, caller_word}
+use Rattle.heap_model.specs.State.{Area, gate_word, caller_word, Span, Place, Locks, holder_of, put_holder}
 use Rattle.heap_model.specs.CallState.{Configuration, SpanHistory}
 use Rattle.claim_rule.specs.declared.views.Owed.{Owed}
-use Rattle.claim_rule.specs.Places.{word_count}
-use Rattle.claim_rule.specs.Shown.{lfh_spans, flag, bitmap_word, size_word, owed_or, tag_word, hint_word, HintsAreHeads, MayBeOld, AreAllShown, are_made_by, is_head}
+use Rattle.claim_rule.specs.Places.{word_count, lock_at, IsLayerLock}
+use Rattle.claim_rule.specs.Shown.{lfh_spans, flag, bitmap_word, size_word, owed_or, tag_word, hint_word, HintsAreHeads, MayBeOld, AreAllShown, are_made_by, is_head, LfhShown}
+use Rattle.std.specs.Prelude.{Bool}
+use Rattle.heap_model.specs.declared.What.{What}
+use Rattle.claim_rule.proofs.Quiet.{SameShown, same_shown}
+use Rattle.claim_rule.proofs.Words.{hint_same, lfh_same}
+use Rattle.claim_rule.proofs.Whats.{same_what, words_apart, lock_low, holder_here, holder_else}
 
 -- what the word j shows: the new value where it is the one that is written, else what it showed
 pub record Becomes (i v j new old : ℕ) : Type 0 where
@@ -33,23 +38,23 @@ pub record IsOwedSoundly (l : Limits) (m : Configuration) (owes : List Owed) : T
       ⊎ MayBeOld m b t (owed_or owes (118 + 16 * b + t) (hint_word m.state.back.area m.now.span_history b t))
   pub paid : m.state.gate.locks.back ≡ None → owes ≡ []
 
-pub owed_soundly : (l : Limits) (made : ℕ) (m : Configuration) (owes : List Owed) (words : List ℕ) → AreAllShown l made m owes words → IsOwedSoundly l m owes
-owed_soundly l made m owes words h = record {
-  tags = λ page lt. let k = h.lfh.tags page lt in ⊎_elim (λ (z : get_or words (2182 + page) 0 ≡ tag_word (lfh_spans m.state.back.area) page). inl (sym k.0 ∙ z)) (λ (z : get_or words (2182 + page) 0 ≡ 0). inr (sym k.0 ∙ z)) k.1;
-  heads = h.lfh.heads;
+pub owed_by_front : (l : Limits) (m : Configuration) (owes : List Owed) (words : List ℕ) → LfhShown l m owes words → IsOwedSoundly l m owes
+owed_by_front l m owes words h = record {
+  tags = λ page lt. let k = h.tags page lt in ⊎_elim (λ (z : get_or words (2182 + page) 0 ≡ tag_word (lfh_spans m.state.back.area) page). inl (sym k.0 ∙ z)) (λ (z : get_or words (2182 + page) 0 ≡ 0). inr (sym k.0 ∙ z)) k.1;
+  heads = h.heads;
   hints = λ b t low high few.
-      let k = h.lfh.hints b t low high few in
+      let k = h.hints b t low high few in
       ⊎_elim (λ (z : get_or words (118 + 16 * b + t) 0 ≡ hint_word m.state.back.area m.now.span_history b t). inl (sym k.0 ∙ z)) (λ (z : MayBeOld m b t (get_or words (118 + 16 * b + t) 0)). inr (subst (MayBeOld m b t) k.0 z)) k.1;
-  paid = h.lfh.paid;
+  paid = h.paid;
 }
 
--- the parts of the words, each by what guards it
+pub owed_soundly : (l : Limits) (made : ℕ) (m : Configuration) (owes : List Owed) (words : List ℕ) → AreAllShown l made m owes words → IsOwedSoundly l m owes
+owed_soundly l made m owes words h = owed_by_front l m owes words h.lfh
+
+-- The parts of the words but for the word of callers that were made. A step names each: what it writes, and that the others stay.
 pub record IsBehind (l : Limits) (m' m : Configuration) (owes' owes : List Owed) (i v : ℕ) : Type 0 where
   pub gate : Becomes i v 1 (gate_word m'.state.gate) (gate_word m.state.gate)
-  pub lfh : Becomes i v 2 (caller_word m'.state.gate.locks.lfh) (caller_word m.state.gate.locks.lfh)
-  pub vs : Becomes i v 3 (caller_word m'.state.gate.locks.vs) (caller_word m.state.gate.locks.vs)
-  pub back : Becomes i v 4 (caller_word m'.state.gate.locks.back) (caller_word m.state.gate.locks.back)
-  pub large : Becomes i v 5 (caller_word m'.state.gate.locks.large) (caller_word m.state.gate.locks.large)
+  pub locks : (what : What) → IsLayerLock what → Becomes i v (lock_at what) (caller_word (holder_of m'.state.gate.locks what)) (caller_word (holder_of m.state.gate.locks what))
   pub active : (k : ℕ) → k < 128 → Becomes i v (6 + k) (flag (m'.state.vs.active (k + 1))) (flag (m.state.vs.active (k + 1)))
   pub hints : (b t : ℕ) → 1 ≤ b → b ≤ 128 → t < 16
       → Becomes i v (118 + 16 * b + t) (owed_or owes' (118 + 16 * b + t) (hint_word m'.state.back.area m'.now.span_history b t)) (owed_or owes (118 + 16 * b + t) (hint_word m.state.back.area m.now.span_history b t))
@@ -60,10 +65,25 @@ pub record IsBehind (l : Limits) (m' m : Configuration) (owes' owes : List Owed)
   pub sizes : (k : ℕ) → k < 65536 * l.segments → Becomes i v (2182 + 1280 * l.segments + k) (size_word m'.state.lfh k) (size_word m.state.lfh k)
   pub stored : (k : ℕ) → k < 131072 * l.segments + 512 * l.large_pages → Becomes i v (2182 + 66816 * l.segments + k) (m'.state.words k) (m.state.words k)
 
--- where nothing that words show is another, and the word written is not one of the table's parts from the gate on, or shows what it showed
-pub shown_behind : (l : Limits) (made : ℕ) (m' m : Configuration) (owes' owes : List Owed) (words : List ℕ) (i v : ℕ)
-    → 1 ≤ i → i < word_count l → IsBehind l m' m owes' owes i v → IsOwedSoundly l m' owes' → AreAllShown l made m owes words → AreAllShown l made m' owes' (set words i v)
-shown_behind l made m' m owes' owes words i v low high b f h =
+-- no lock's word is the one that is written, and no lock changes hands
+pub locks_stay : (i v : ℕ) (f g : Locks) → (i < 2) ⊎ (6 ≤ i) → f ≡ g → (what : What) → IsLayerLock what → Becomes i v (lock_at what) (caller_word (holder_of f what)) (caller_word (holder_of g what))
+locks_stay i v f g away e what is =
+    let low = lock_low what is in
+    stays i v (lock_at what) _ _ (λ k. ⊎_elim (λ (z : i < 2). omega arith) (λ (z : 6 ≤ i). omega arith) away) (ap (λ (x : Locks). caller_word (holder_of x what)) e)
+
+-- one lock changes hands, by its word
+pub lock_changes : (h : Option ℕ) (k : Locks) (mine : What) → IsLayerLock mine → (what : What) → IsLayerLock what
+    → Becomes (lock_at mine) (caller_word h) (lock_at what) (caller_word (holder_of (put_holder h k mine) what)) (caller_word (holder_of k what))
+lock_changes h k mine has what is = elim (same_what mine what) [
+  | inl e ↦ subst (λ (z : What). Becomes (lock_at mine) (caller_word h) (lock_at z) (caller_word (holder_of (put_holder h k mine) z)) (caller_word (holder_of k z))) e
+      (record { here = λ _. ap caller_word (sym (holder_here k mine h has)); else = λ n. absurd (n refl) })
+  | inr ne ↦ stays (lock_at mine) (caller_word h) (lock_at what) _ _ (words_apart mine what ne) (ap caller_word (holder_else k mine what h ne))
+]
+
+-- The words behind a step, where each part is named and readers of what is owed can go by it.
+pub shown_with : (l : Limits) (made' made : ℕ) (m' m : Configuration) (owes' owes : List Owed) (words : List ℕ) (i v : ℕ)
+    → i < word_count l → Becomes i v 0 made' made → IsBehind l m' m owes' owes i v → IsOwedSoundly l m' owes' → AreAllShown l made m owes words → AreAllShown l made' m' owes' (set words i v)
+shown_with l made' made m' m owes' owes words i v high c b f h =
     let wide = h.wide in
     let lt : i < length words = omega arith in
     let tag : (page : ℕ) → page < 256 * l.segments → get_or (set words i v) (2182 + page) 0 ≡ owed_or owes' (2182 + page) (tag_word (lfh_spans m'.state.back.area) page) =
@@ -72,13 +92,10 @@ shown_behind l made m' m owes' owes words i v low high b f h =
     λ x t lx hx ft. becomes words i v (118 + 16 * x + t) _ _ lt (b.hints x t lx hx ft) (h.lfh.hints x t lx hx ft).0 in
     record {
       wide = length-set words i v ∙ h.wide;
-      made_is = get_or-set_other words i 0 v 0 (λ e. omega arith) ∙ h.made_is;
+      made_is = becomes words i v 0 _ _ lt c h.made_is;
       gate = record {
         gate = becomes words i v 1 _ _ lt b.gate h.gate.gate;
-        lfh = becomes words i v 2 _ _ lt b.lfh h.gate.lfh;
-        vs = becomes words i v 3 _ _ lt b.vs h.gate.vs;
-        back = becomes words i v 4 _ _ lt b.back h.gate.back;
-        large = becomes words i v 5 _ _ lt b.large h.gate.large;
+        locks = λ what is. becomes words i v (lock_at what) _ _ lt (b.locks what is) (h.gate.locks what is);
       };
       lfh = record {
         active = λ k lk. becomes words i v (6 + k) _ _ lt (b.active k lk) (h.lfh.active k lk);
@@ -104,42 +121,52 @@ shown_behind l made m' m owes' owes words i v low high b f h =
       stored = λ k lk. becomes words i v (2182 + 66816 * l.segments + k) _ _ lt (b.stored k lk) (h.stored k lk);
     }
 
----- Steps that leave whole parts
+-- .. where the caller writes no word of those made
+pub shown_behind : (l : Limits) (made : ℕ) (m' m : Configuration) (owes' owes : List Owed) (words : List ℕ) (i v : ℕ)
+    → 1 ≤ i → i < word_count l → IsBehind l m' m owes' owes i v → IsOwedSoundly l m' owes' → AreAllShown l made m owes words → AreAllShown l made m' owes' (set words i v)
+shown_behind l made m' m owes' owes words i v low high b f h = shown_with l made made m' m owes' owes words i v high (stays i v 0 made made (λ e. omega arith) refl) b f h
 
--- The heap behind the step is that before it, but for what is not named here.
-module _ (l : Limits) (m' m : Configuration) (owes : List Owed) (i v : ℕ) where
-  -- a word from those of the gate and the locks is written
-  pub locks_only : i < 6
-      → m'.state.lfh ≡ m.state.lfh → m'.state.words ≡ m.state.words → m'.state.vs.active ≡ m.state.vs.active → m'.state.back.area ≡ m.state.back.area
-      → ((b t : ℕ) → m'.now.span_history.hints b t ≡ m.now.span_history.hints b t)
-      → Becomes i v 1 (gate_word m'.state.gate) (gate_word m.state.gate)
-      → Becomes i v 2 (caller_word m'.state.gate.locks.lfh) (caller_word m.state.gate.locks.lfh)
-      → Becomes i v 3 (caller_word m'.state.gate.locks.vs) (caller_word m.state.gate.locks.vs)
-      → Becomes i v 4 (caller_word m'.state.gate.locks.back) (caller_word m.state.gate.locks.back)
-      → Becomes i v 5 (caller_word m'.state.gate.locks.large) (caller_word m.state.gate.locks.large)
-      → IsBehind l m' m owes owes i v
-  locks_only lt lfh words active area hints g a b c d = record {
-    gate = g;
-    lfh = a;
-    vs = b;
-    back = c;
-    large = d;
-    active = λ k lk. stays i v (6 + k) _ _ (λ e. omega arith) (ap (λ (f : ℕ → Rattle.std.specs.Prelude.Bool). flag (f (k + 1))) active);
-    hints = λ x t lx hx ft. stays i v (118 + 16 * x + t) _ _ (λ e. omega arith) (ap (owed_or owes (118 + 16 * x + t)) (same_hint m' m area hints x t));
-    tags = λ page lp. stays i v (2182 + page) _ _ (λ e. omega arith) (ap (λ (z : Area). owed_or owes (2182 + page) (tag_word (lfh_spans z) page)) area);
-    bitmaps = λ k lk. stays i v (2182 + 256 * l.segments + k) _ _ (λ e. omega arith) (same_bits k);
-    sizes = λ k lk. stays i v (2182 + 1280 * l.segments + k) _ _ (λ e. omega arith) (ap (λ (ps : List Rattle.heap_model.specs.State.Place). size_word ps k) lfh);
-    stored = λ k lk. stays i v (2182 + 66816 * l.segments + k) _ _ (λ e. omega arith) (ap (λ (f : ℕ → ℕ). f k) words);
-  }
-    where
-      same_bits : (k : ℕ) → bitmap_word m'.state.lfh (lfh_spans m'.state.back.area) (k / 4) (k % 4) ≡ bitmap_word m.state.lfh (lfh_spans m.state.back.area) (k / 4) (k % 4)
-      same_bits k = ap (λ (ps : List Rattle.heap_model.specs.State.Place). bitmap_word ps (lfh_spans m'.state.back.area) (k / 4) (k % 4)) lfh ∙ ap (λ (z : Area). bitmap_word m.state.lfh (lfh_spans z) (k / 4) (k % 4)) area
+---- Steps that write a word before those of the front end
 
-      same_hint : (m' m : Configuration) → m'.state.back.area ≡ m.state.back.area → ((b t : ℕ) → m'.now.span_history.hints b t ≡ m.now.span_history.hints b t) → (b t : ℕ)
-          → hint_word m'.state.back.area m'.now.span_history b t ≡ hint_word m.state.back.area m.now.span_history b t
-      same_hint m' m area hints b t =
-          ap (λ (o : Option ℕ). Rattle.std.specs.Prelude.unwrap_or (Rattle.heap_model.specs.Search.hint_or o (Rattle.heap_model.specs.Search.first_of (Rattle.heap_model.specs.Search.spans_of m'.state.back.area b t))) 0) (hints b t)
-          ∙ ap (λ (z : Area). Rattle.std.specs.Prelude.unwrap_or (Rattle.heap_model.specs.Search.hint_or (m.now.span_history.hints b t) (Rattle.heap_model.specs.Search.first_of (Rattle.heap_model.specs.Search.spans_of z b t))) 0) area
+-- what the words of the front end and of the data show is the same in both
+pub record SameFront (m' m : Configuration) : Type 0 where
+  pub lfh : m'.state.lfh ≡ m.state.lfh
+  pub words : m'.state.words ≡ m.state.words
+  pub active : m'.state.vs.active ≡ m.state.vs.active
+  pub spans : lfh_spans m'.state.back.area ≡ lfh_spans m.state.back.area
+  pub hints : (b t : ℕ) → hint_word m'.state.back.area m'.now.span_history b t ≡ hint_word m.state.back.area m.now.span_history b t
+
+pub same_front : (m' m : Configuration) → SameShown m' m → m'.state.gate.locks.back ≡ m.state.gate.locks.back → HintsAreHeads m → SameFront m' m
+same_front m' m r back heads = record { lfh = r.lfh; words = r.words; active = r.active; spans = r.spans; hints = hint_same m' m r back heads }
+
+pub low_behind : (l : Limits) (m' m : Configuration) (owes : List Owed) (i v : ℕ) → i < 6 → SameFront m' m → Becomes i v 1 (gate_word m'.state.gate) (gate_word m.state.gate)
+    → ((what : What) → IsLayerLock what → Becomes i v (lock_at what) (caller_word (holder_of m'.state.gate.locks what)) (caller_word (holder_of m.state.gate.locks what))) → IsBehind l m' m owes owes i v
+low_behind l m' m owes i v lt r gate locks = record {
+  gate = gate;
+  locks = locks;
+  active = λ k lk. stays i v (6 + k) _ _ (λ e. omega arith) (ap (λ (f : ℕ → Bool). flag (f (k + 1))) r.active);
+  hints = λ b t lb hb ft. stays i v (118 + 16 * b + t) _ _ (λ e. omega arith) (ap (owed_or owes (118 + 16 * b + t)) (r.hints b t));
+  tags = λ page lp. stays i v (2182 + page) _ _ (λ e. omega arith) (ap (λ (xs : List Span). owed_or owes (2182 + page) (tag_word xs page)) r.spans);
+  bitmaps = λ k lk. stays i v (2182 + 256 * l.segments + k) _ _ (λ e. omega arith) (ap (λ (z : List Place × List Span). bitmap_word z.0 z.1 (k / 4) (k % 4)) (λ j. (r.lfh j, r.spans j)));
+  sizes = λ k lk. stays i v (2182 + 1280 * l.segments + k) _ _ (λ e. omega arith) (ap (λ (ps : List Place). size_word ps k) r.lfh);
+  stored = λ k lk. stays i v (2182 + 66816 * l.segments + k) _ _ (λ e. omega arith) (ap (λ (f : ℕ → ℕ). f k) r.words);
+}
+
+-- the gate word is written, and the locks stay
+pub all_gate : (l : Limits) (made : ℕ) (m n : Configuration) (owes : List Owed) (words : List ℕ) (y : ℕ) → SameShown m n → m.state.gate.locks ≡ n.state.gate.locks
+    → y ≡ gate_word m.state.gate → AreAllShown l made n owes words → AreAllShown l made m owes (set words 1 y)
+all_gate l made m n owes words y r e w h =
+    let back = ap (λ (k : Locks). k.back) e in
+    shown_behind l made m n owes owes words 1 y (omega arith) (omega arith)
+    (low_behind l m n owes 1 y (omega arith) (same_front m n r back h.lfh.heads) (record { here = λ _. w; else = λ k. absurd (k refl) }) (locks_stay 1 y m.state.gate.locks n.state.gate.locks (inl (omega arith)) e))
+    (owed_by_front l m owes words (lfh_same m n r back l owes words h.lfh)) h
+
+-- one caller more is counted
+pub all_made : (l : Limits) (made : ℕ) (m : Configuration) (owes : List Owed) (words : List ℕ) (y : ℕ) → AreAllShown l made m owes words → AreAllShown l y m owes (set words 0 y)
+all_made l made m owes words y h =
+    shown_with l y made m m owes owes words 0 y (omega arith) (record { here = λ _. refl; else = λ k. absurd (k refl) })
+    (low_behind l m m owes 0 y (omega arith) (same_front m m (same_shown m) refl h.lfh.heads) (stays 0 y 1 _ _ (λ k. omega arith) refl) (locks_stay 0 y m.state.gate.locks m.state.gate.locks (inl (omega arith)) refl))
+    (owed_soundly l made m owes words h) h
 
 ---- What is owed
 

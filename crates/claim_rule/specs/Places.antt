@@ -22,6 +22,11 @@ lock_at whats.Vs = 3
 lock_at whats.Back = 4
 lock_at whats.Large = 5
 
+-- the lock of a layer has a word of its own
+abbrev pub IsLayerLock : What → Type 0
+IsLayerLock whats.Gate = ⊥
+IsLayerLock _ = Unit {0}
+
 abbrev pub made_region : Region
 made_region = record { from = 0; words = 1 }
 
@@ -76,6 +81,9 @@ back_slot = 1
 
 abbrev pub large_slot : ℕ
 large_slot = 2
+
+abbrev pub slot_count : ℕ
+slot_count = 3
 
 ---- The word of ..
 

@@ -1,5 +1,5 @@
 -- The laws of data words.
-use Rattle.std.proofs.Common.{◌≡◌, ℕ, ◌+◌, ◌*◌, ◌<◌, true, ◌&&◌, ◌==◌, List, [], ◌∷◌, get_or, Option, refl, sym, ap, ◌∙◌, subst, arith, eq-eqb, ne_eqb}
+use Rattle.std.proofs.Common.{inr, ◌≡◌, ℕ, ◌+◌, ◌*◌, ◌<◌, true, ◌&&◌, ◌==◌, List, [], ◌∷◌, get_or, Option, refl, sym, ap, ◌∙◌, subst, arith, eq-eqb, ne_eqb}
 use Rattle.std.specs.Prelude.{is_some, nat_lt}
 use Rattle.std.proofs.lemmas.Bool.{and_from, lt-ltb}
 use mathlib.Core.Option.{none, some}
@@ -20,14 +20,14 @@ use Rattle.claim_rule.specs.declared.views.View.{View}
 use Rattle.heap_model.specs.Layers.{LayerState}
 use Rattle.claim_rule.specs.Entries.{IsSettingOf, entry}
 use Rattle.claim_rule.specs.Rule.{IsRuled, IsReady, ready_after}
-use Rattle.claim_rule.proofs.Prepared.{homes_kept}
+use Rattle.claim_rule.proofs.Slots.{homes_still, homes_kept}
 use Rattle.claim_rule.proofs.Words.{all_same, all_kept}
 use Rattle.claim_rule.proofs.Advance.{before, acts, adds_of, setting_in}
 use Rattle.claim_rule.proofs.Gate.{one_by, one_follows}
 use Rattle.claim_rule.specs.Places.{data_at, data_count}
 use Rattle.lock_steps.specs.Data.{IsInside, loaded, stored}
 use Rattle.lock_steps.specs.Laws.{LoadDataLaw, StoreDataLaw}
-use Rattle.claim_rule.proofs.Behind.{stays, IsBehind, owed_soundly, shown_behind, still_owed}
+use Rattle.claim_rule.proofs.Behind.{stays, IsBehind, owed_soundly, shown_behind, still_owed, locks_stay}
 
 module _ {T : Type 0} (stands : T → LayerState) (o : Opening) (slots id n : ℕ) (me : Me (Option T) View) (es : List Entry) (h : IsReady n me.0 es) (st : State (Option T) View) (r : IsRuled stands o st) (at : get_elem? st.views id ≡ some me.0) where
   abbrev now_at : Setting → Configuration
@@ -69,10 +69,7 @@ module _ {T : Type 0} (stands : T → LayerState) (o : Opening) (slots id n : �
   data_behind : (l : Limits) (s : Setting) (m : Configuration) (owes : List Owed) (w v : ℕ) → w < data_count l → IsBehind l (after s m (entry n (acts.Store w v))) m owes owes (data_at l w) v
   data_behind l s m owes w v lt = record {
     gate = stays (data_at l w) v 1 _ _ (λ k. omega arith) refl;
-    lfh = stays (data_at l w) v 2 _ _ (λ k. omega arith) refl;
-    vs = stays (data_at l w) v 3 _ _ (λ k. omega arith) refl;
-    back = stays (data_at l w) v 4 _ _ (λ k. omega arith) refl;
-    large = stays (data_at l w) v 5 _ _ (λ k. omega arith) refl;
+    locks = locks_stay (data_at l w) v _ _ (inr (omega arith)) refl;
     active = λ k lk. stays (data_at l w) v (6 + k) _ _ (λ g. omega arith) refl;
     hints = λ b t lb hb ft. stays (data_at l w) v (118 + 16 * b + t) _ _ (λ g. omega arith) refl;
     tags = λ page lp. stays (data_at l w) v (2182 + page) _ _ (λ g. omega arith) refl;
@@ -98,7 +95,7 @@ module _ {T : Type 0} (stands : T → LayerState) (o : Opening) (slots id n : �
         shown_behind o.limits r.lead.counted (after s (now_at s) (entry n deed)) (now_at s) r.owes r.owes st.words (data_at o.limits w) v (omega arith) (omega arith)
             (data_behind o.limits s (now_at s) r.owes w v lt)
             (still_owed o.limits (after s (now_at s) (entry n deed)) (now_at s) r.owes refl refl refl (owed_soundly o.limits r.lead.counted (now_at s) r.owes st.words d.words)) d.words,
-        homes_kept stands o (after s (now_at s) (entry n deed)).state (now_at s).state st.homes (record { locks = refl; vs = λ _. refl; spans = λ _. refl; back = λ _. refl; large = λ _. refl }) d.home,
+        homes_kept stands o (after s (now_at s) (entry n deed)).state (now_at s).state st.homes (homes_still _ _ refl refl) d.home,
       )) in
       (a.0, keeps, tt, a.1, record { adds = adds_of me (a.0, me.1) n es deed h.role a.2; slot = refl; owes = a.3 })
 

@@ -1,6 +1,6 @@
 -- The laws of the locks that have a slot: take one with its state, or find another's number; give it back.
-use Rattle.std.proofs.Common.{◌≡◌, ◌⊎◌, ℕ, ◌+◌, ◌<◌, ◌≤◌, true, false, not, ◌&&◌, ◌==◌, List, [], ◌∷◌, ◌++◌, get_or, set, refl, sym, ap, ◌∙◌, subst, arith, Option, Some, None, inl, inr, eq-eqb, eqb}
-use Rattle.std.specs.Prelude.{is_none, is_some}
+use Rattle.std.proofs.Common.{◌≡◌, ℕ, ◌+◌, ◌<◌, true, false, not, ◌&&◌, ◌==◌, List, [], ◌∷◌, ◌++◌, get_or, set, refl, sym, ap, ◌∙◌, subst, arith, Option, Some, None, inl, eq-eqb, eqb}
+use Rattle.std.specs.Prelude.{is_none, is_some, unwrap_or}
 use Rattle.std.proofs.lemmas.Bool.{and_parts, and_from}
 use mathlib.Core.Option.{none, some}
 use lib.ListN.{get_elem?}
@@ -23,7 +23,7 @@ use Rattle.heap_model.specs.declared.Opening.{Opening}
 use Rattle.claim_rule.specs.declared.views.Owed.{Owed}
 use Rattle.claim_rule.specs.declared.views.View.{View}
 use Rattle.claim_rule.specs.Places.{lock_at, word_count}
-use Rattle.claim_rule.specs.Shown.{GateShown, lfh_spans, holder_from}
+use Rattle.claim_rule.specs.Shown.{lfh_spans}
 use Rattle.heap_model.specs.Layers.{LayerState}
 use Rattle.claim_rule.specs.Home.{AreHome, slot_of, HasSlot, Tells}
 use Rattle.claim_rule.specs.Entries.{IsSettingOf, setting_of, entry, is_by}
@@ -38,9 +38,11 @@ use Rattle.claim_rule.proofs.Advance.{before, acts, leaves, adds_of, setting_in,
 use Rattle.claim_rule.proofs.Gate.{one_by, one_follows}
 use Rattle.lock_steps.specs.Laws.{TakeLaw, GiveLaw}
 use Rattle.lock_steps.specs.Locks.{owed_with, IsPaid, MayTake, MayGiveBack, took, gave}
-use Rattle.claim_rule.proofs.Behind.{stays, IsBehind, IsOwedSoundly, owed_soundly, shown_behind, locks_only, none_owed, still_owed}
+use Rattle.claim_rule.proofs.Behind.{stays, IsBehind, IsOwedSoundly, owed_soundly, shown_behind, none_owed, still_owed, low_behind, lock_changes}
 use Rattle.claim_rule.proofs.Ready.{stable_here, holder_is_it}
-use Rattle.claim_rule.proofs.Slots.{tells_gate, tells_same, slot_same, found_home, homes_taken, homes_given}
+use Rattle.claim_rule.proofs.Slots.{tells_gate, tells_same, slot_same, homes_taken, homes_given}
+use Rattle.claim_rule.proofs.Whats.{lock_low, of_layer}
+use Rattle.heap_model.specs.Search.{hint_or, first_of, spans_of}
 
 pub take_same : (n : ℕ) (what : What) (m k : Configuration) → AgreesFor n m k → MayTake k n what → MayTake m n what
 take_same n what m k r h =
@@ -50,14 +52,6 @@ take_same n what m k r h =
       inside = ap is_inside v ∙ h.inside;
       free = ap (λ (x : CallerView). held x what) v ∙ h.free;
     }
-
--- the word of a lock
-lock_word : (f : GateAndLocks) (words : List ℕ) (what : What) → HasSlot what → GateShown f words → get_or words (lock_at what) 0 ≡ caller_word (holder_of f.locks what)
-lock_word f words whats.Vs q h = h.vs
-lock_word f words whats.Back q h = h.back
-lock_word f words whats.Large q h = h.large
-lock_word f words whats.Gate q h = absurd q
-lock_word f words whats.Lfh q h = absurd q
 
 none_of : (o : Option ℕ) → caller_word o ≡ 0 → o ≡ None
 none_of None e = refl
@@ -113,29 +107,12 @@ same_blocked s m n x whats.Lfh q = absurd q
 -- the words where one lock changes hands
 pub lock_behind : (l : Limits) (m : Configuration) (now : Now) (owes : List Owed) (what : What) (h : Option ℕ) → HasSlot what → ((b t : ℕ) → now.span_history.hints b t ≡ m.now.span_history.hints b t)
     → IsBehind l (record { state = record m.state { gate = with_holder m.state.gate what h }; now = now }) m owes owes (lock_at what) (caller_word h)
-lock_behind l m now owes whats.Vs h q e = locks_only l (record { state = record m.state { gate = with_holder m.state.gate whats.Vs h }; now = now }) m owes 3 (caller_word h) (omega arith) refl refl refl refl e
-    (stays 3 _ 1 _ _ (λ k. omega arith) refl) (stays 3 _ 2 _ _ (λ k. omega arith) refl) (record { here = λ k. refl; else = λ k. absurd (k refl) }) (stays 3 _ 4 _ _ (λ k. omega arith) refl) (stays 3 _ 5 _ _ (λ k. omega arith) refl)
-lock_behind l m now owes whats.Back h q e = locks_only l (record { state = record m.state { gate = with_holder m.state.gate whats.Back h }; now = now }) m owes 4 (caller_word h) (omega arith) refl refl refl refl e
-    (stays 4 _ 1 _ _ (λ k. omega arith) refl) (stays 4 _ 2 _ _ (λ k. omega arith) refl) (stays 4 _ 3 _ _ (λ k. omega arith) refl) (record { here = λ k. refl; else = λ k. absurd (k refl) }) (stays 4 _ 5 _ _ (λ k. omega arith) refl)
-lock_behind l m now owes whats.Large h q e = locks_only l (record { state = record m.state { gate = with_holder m.state.gate whats.Large h }; now = now }) m owes 5 (caller_word h) (omega arith) refl refl refl refl e
-    (stays 5 _ 1 _ _ (λ k. omega arith) refl) (stays 5 _ 2 _ _ (λ k. omega arith) refl) (stays 5 _ 3 _ _ (λ k. omega arith) refl) (stays 5 _ 4 _ _ (λ k. omega arith) refl) (record { here = λ k. refl; else = λ k. absurd (k refl) })
-lock_behind l m now owes whats.Gate h q e = absurd q
-lock_behind l m now owes whats.Lfh h q e = absurd q
-
-lock_low : (what : What) → HasSlot what → (1 ≤ lock_at what) × (lock_at what < 6)
-lock_low whats.Vs q = (omega arith, omega arith)
-lock_low whats.Back q = (omega arith, omega arith)
-lock_low whats.Large q = (omega arith, omega arith)
-lock_low whats.Gate q = absurd q
-lock_low whats.Lfh q = absurd q
-
--- who holds Back behind a step on a lock
-taken_holder : (n : ℕ) (what : What) → HasSlot what → (h : Option ℕ) → (holder_from h (entry n (acts.TakeLock what) ∷ []) ≡ h) ⊎ (what ≡ whats.Back)
-taken_holder n whats.Vs q h = inl refl
-taken_holder n whats.Large q h = inl refl
-taken_holder n whats.Back q h = inr refl
-taken_holder n whats.Gate q h = absurd q
-taken_holder n whats.Lfh q h = absurd q
+lock_behind l m now owes what h has e =
+    let low = lock_low what (of_layer what has) in
+    low_behind l (record { state = record m.state { gate = with_holder m.state.gate what h }; now = now }) m owes (lock_at what) (caller_word h) low.1
+    (record { lfh = refl; words = refl; active = refl; spans = refl; hints = λ b t. ap (λ (o : Option ℕ). unwrap_or (hint_or o (first_of (spans_of m.state.back.area b t))) 0) (e b t) })
+    (stays (lock_at what) (caller_word h) 1 _ _ (λ k. omega arith) refl)
+    (lock_changes h m.state.gate.locks what (of_layer what has))
 
 -- the caller's view behind the entry that denies an address
 pub view_denied : (s : Setting) (m : Configuration) (n a : ℕ) → caller_view (after s m (entry n (acts.NotLive a))) n ≡ caller_view m n
@@ -162,7 +139,7 @@ module _ {T : Type 0} (stands : T → LayerState) (o : Opening) where
     here s q = take_same n what (behind s) (ready_after s me.0 es) (before stands o st r id n me.0 es at h s q).carried.agrees (ok s (setting_in stands o st r id n me.0 es at h s q))
 
     word_is : (s : Setting) → IsSettingOf o r.lead.roll s → found ≡ caller_word (holder_of (behind s).state.gate.locks what)
-    word_is s q = lock_word (behind s).state.gate st.words what has (before stands o st r id n me.0 es at h s q).words.gate
+    word_is s q = (before stands o st r id n me.0 es at h s q).words.gate.locks what (of_layer what has)
 
     miss : (found ≡ 0 → ⊥) → Taking what slots id n me es st found
     miss z =
@@ -187,8 +164,8 @@ module _ {T : Type 0} (stands : T → LayerState) (o : Opening) where
         let s0 = setting_of o r.lead.roll in
         let q0 = some_setting o r.lead.roll in
         let free : (s : Setting) → IsSettingOf o r.lead.roll s → holder_of (behind s).state.gate.locks what ≡ None = λ s q. none_of _ (sym (word_is s q) ∙ z) in
-        let t = found_home stands o (behind s0).state st.homes what has (free s0 q0) (before stands o st r id n me.0 es at h s0 q0).home in
-        let low = lock_low what has in
+        let t = (before stands o st r id n me.0 es at h s0 q0).home.full what has (free s0 q0) in
+        let low = lock_low what (of_layer what has) in
         let a = leaves stands o st r id n me.0 es at h me.1 (lock_at what) (n + 1) (takes (slot_of what) (Some t.0)) (entry n (acts.TakeLock what) ∷ []) r.owes (owed_with what me.0.owes) (one_by n (acts.TakeLock what)) (owing what has free)
         (λ s q.
         let b = before stands o st r id n me.0 es at h s q in
@@ -196,7 +173,7 @@ module _ {T : Type 0} (stands : T → LayerState) (o : Opening) where
         let wide : lock_at what < word_count o.limits = omega arith in (
           one_follows s (behind s) n (acts.TakeLock what) b.whole p.begun (take_ok s (behind s) n what has p.inside (free s q)),
           refl,
-          shown_behind o.limits r.lead.counted (after s (behind s) (entry n (acts.TakeLock what))) (behind s) r.owes r.owes st.words (lock_at what) (n + 1) low.0 wide
+          shown_behind o.limits r.lead.counted (after s (behind s) (entry n (acts.TakeLock what))) (behind s) r.owes r.owes st.words (lock_at what) (n + 1) (omega arith) wide
               (lock_behind o.limits (behind s) (after s (behind s) (entry n (acts.TakeLock what))).now r.owes what (Some n) has (λ b t. refl))
               (owed_behind s what has (free s q) (owed_soundly o.limits r.lead.counted (behind s) r.owes st.words b.words))
               b.words,
@@ -213,7 +190,7 @@ module _ {T : Type 0} (stands : T → LayerState) (o : Opening) where
               slot = refl;
               tells = λ s q.
                   let g = setting_back stands o st r id n me.0 es at h a.0 s a.2.opening a.5 q in
-                  let t' = found_home stands o (behind s).state st.homes what has (free s g) (before stands o st r id n me.0 es at h s g).home in
+                  let t' = (before stands o st r id n me.0 es at h s g).home.full what has (free s g) in
                   let same : t'.0 ≡ t.0 = slot_same (t'.0) (t.0) (sym t'.1 ∙ t.1) in
                   let p = role_of stands o st r id n me.0 at h.role in
                   subst (λ (z : Opening). Tells what z (configuration_of s a.0.seen).state (stands t.0)) (sym {b = o} (a.2.opening ∙ p.4))
@@ -305,7 +282,7 @@ module _ {T : Type 0} (stands : T → LayerState) (o : Opening) where
 
     pub gives_lock : (w : View) × (a : Act (Option T)) × Valid st.homes me.1 a × IsRuled stands o (stepped st (lock_at what) 0 id me.1 w a) × gave what es (step slots (lock_at what) 0 0 none) me 0 (w, carried_after me.1 a)
     gives_lock =
-        let low = lock_low what has in
+        let low = lock_low what (of_layer what has) in
         let a = leaves stands o st r id n me.0 es at h me.1 (lock_at what) 0 gives (entry n (acts.GiveLock what) ∷ []) r.owes me.0.owes (one_by n (acts.GiveLock what)) (owing what has)
         (λ s q.
         let b = before stands o st r id n me.0 es at h s q in
@@ -313,7 +290,7 @@ module _ {T : Type 0} (stands : T → LayerState) (o : Opening) where
         let wide : lock_at what < word_count o.limits = omega arith in (
           one_follows s (back_to s) n (acts.GiveLock what) b.whole begun (give_ok s q),
           refl,
-          shown_behind o.limits r.lead.counted (after s (back_to s) (entry n (acts.GiveLock what))) (back_to s) r.owes r.owes st.words (lock_at what) 0 low.0 wide
+          shown_behind o.limits r.lead.counted (after s (back_to s) (entry n (acts.GiveLock what))) (back_to s) r.owes r.owes st.words (lock_at what) 0 (omega arith) wide
               (lock_behind o.limits (back_to s) (after s (back_to s) (entry n (acts.GiveLock what))).now r.owes what None has (hints_on s what has))
               (owed_behind s q what has (mine s q) paid (owed_soundly o.limits r.lead.counted (back_to s) r.owes st.words b.words))
               b.words,
@@ -333,7 +310,7 @@ module _ {T : Type 0} (stands : T → LayerState) (o : Opening) where
 
       pub gives_denied : (w : View) × (a' : Act (Option T)) × Valid st.homes me.1 a' × IsRuled stands o (stepped st (lock_at what) 0 id me.1 w a') × Goes (number_of me.0.role) me.0 w es (entry (number_of me.0.role) (acts.NotLive a) ∷ entry (number_of me.0.role) (acts.GiveLock what) ∷ []) × (w.owes ≡ me.0.owes) × (carried_after me.1 a' ≡ rest me.1)
       gives_denied =
-          let low = lock_low what has in
+          let low = lock_low what (of_layer what has) in
           let x = leaves stands o st r id n me.0 es at h me.1 (lock_at what) 0 gives (entry n (acts.NotLive a) ∷ entry n (acts.GiveLock what) ∷ []) r.owes me.0.owes
           (and_from (n == n) (is_by n (entry n (acts.GiveLock what) ∷ [])) (eq-eqb n n refl) (one_by n (acts.GiveLock what))) (owing_denied what has)
           (λ s q.
@@ -347,7 +324,7 @@ module _ {T : Type 0} (stands : T → LayerState) (o : Opening) where
             refl,
             all_same o.limits r.lead.counted (after s first (entry n (acts.GiveLock what))) (after s (back_to s) (entry n (acts.GiveLock what))) r.owes (set st.words (lock_at what) 0)
                 (record { lfh = refl; words = refl; active = refl; spans = refl; hints = λ k x y. refl; makers = λ x k. refl }) refl
-                (shown_behind o.limits r.lead.counted (after s (back_to s) (entry n (acts.GiveLock what))) (back_to s) r.owes r.owes st.words (lock_at what) 0 low.0 wide
+                (shown_behind o.limits r.lead.counted (after s (back_to s) (entry n (acts.GiveLock what))) (back_to s) r.owes r.owes st.words (lock_at what) 0 (omega arith) wide
                 (lock_behind o.limits (back_to s) (after s (back_to s) (entry n (acts.GiveLock what))).now r.owes what None has (hints_on s what has))
                 (owed_behind s q what has (mine s q) paid (owed_soundly o.limits r.lead.counted (back_to s) r.owes st.words b.words))
                 b.words),
@@ -370,4 +347,4 @@ give_law stands o slots id n what me es state more has h top paid ok st r deep a
 
 -- the word of a lock is one of the first six
 pub lock_below : (what : What) (words : ℕ) → HasSlot what → 5 < words → lock_at what < words
-lock_below what words has lt = let l = lock_low what has in let k = l.1 in omega arith
+lock_below what words has lt = let l = lock_low what (of_layer what has) in let k = l.1 in omega arith

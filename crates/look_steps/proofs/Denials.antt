@@ -21,8 +21,9 @@ use Rattle.claim_rule.specs.Steps.{MayGoOut}
 use Rattle.claim_rule.specs.Plays.{Goes, number_of}
 use Rattle.claim_rule.proofs.Counts.{IsCounted, length-without}
 use Rattle.claim_rule.proofs.Lists.{follow_join}
-use Rattle.claim_rule.proofs.Prepared.{homes_kept}
-use Rattle.claim_rule.proofs.Words.{all_same, all_kept, all_gate}
+use Rattle.claim_rule.proofs.Slots.{homes_still, homes_kept}
+use Rattle.claim_rule.proofs.Words.{all_same, all_kept}
+use Rattle.claim_rule.proofs.Behind.{all_gate}
 use Rattle.claim_rule.proofs.Advance.{before, acts, adds_of, setting_in}
 use Rattle.claim_rule.proofs.Gate.{one_by, one_follows, out_same}
 use Rattle.look_steps.specs.Denials.{MayDeny, denied, denied_left}
@@ -91,7 +92,7 @@ module _ {T : Type 0} (stands : T → LayerState) (o : Opening) (slots id n a : 
         refl,
         all_gate o.limits r.lead.counted (after s first (entry n acts.Leave)) m _ st.words ((x + 18446744073709551615) % 18446744073709551616)
             (record { lfh = refl; words = refl; active = refl; spans = refl; hints = λ k b t. refl; makers = λ f k. refl }) refl y b.words,
-        homes_kept stands o (after s first (entry n acts.Leave)).state m.state st.homes (record { locks = refl; vs = λ _. refl; spans = λ _. refl; back = λ _. refl; large = λ _. refl }) b.home,
+        homes_kept stands o (after s first (entry n acts.Leave)).state m.state st.homes (homes_still _ _ refl refl) b.home,
       )) in (
         c.0,
         keeps,

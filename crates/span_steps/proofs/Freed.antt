@@ -24,7 +24,7 @@ use Rattle.claim_rule.specs.declared.views.Owed.{Owed}
 use Rattle.claim_rule.specs.Shown.{AreAllShown, lfh_spans, tag_of, bitmap_word, owed_or, tag_word, hint_word, is_head, are_made_by, MayBeOld}
 use Rattle.claim_rule.specs.Entries.{entry}
 use Rattle.span_steps.specs.Retires.{is_of_span, owed_by_retire}
-use Rattle.claim_rule.proofs.Behind.{stays, IsBehind, IsOwedSoundly, shown_behind}
+use Rattle.claim_rule.proofs.Behind.{stays, IsBehind, IsOwedSoundly, shown_behind, locks_stay}
 use Rattle.step_parts.proofs.Bits.{same_word_of}
 use Rattle.step_parts.proofs.Front.{IsFront, some_pages}
 use Rattle.step_parts.proofs.Blocks.{in_lfh, one_span, span_found}
@@ -277,10 +277,7 @@ module _ (l : Limits) (s : Setting) (m : Configuration) (n first pages b t : ℕ
     freed_behind : IsBehind l freed m owes_freed owes (118 + 16 * b + t) v
     freed_behind = record {
       gate = stays (118 + 16 * b + t) v 1 _ _ (λ k. omega arith) refl;
-      lfh = stays (118 + 16 * b + t) v 2 _ _ (λ k. omega arith) refl;
-      vs = stays (118 + 16 * b + t) v 3 _ _ (λ k. omega arith) refl;
-      back = stays (118 + 16 * b + t) v 4 _ _ (λ k. omega arith) refl;
-      large = stays (118 + 16 * b + t) v 5 _ _ (λ k. omega arith) refl;
+      locks = locks_stay (118 + 16 * b + t) v _ _ (inr (omega arith)) refl;
       active = λ k lk. stays (118 + 16 * b + t) v (6 + k) _ _ (λ g. omega arith) refl;
       hints = λ c u lc hc fu. record {
         here = λ g.

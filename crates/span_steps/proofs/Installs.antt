@@ -31,13 +31,13 @@ use Rattle.claim_rule.specs.declared.views.Owed.{Owed}
 use Rattle.claim_rule.specs.declared.views.View.{View}
 use Rattle.claim_rule.specs.Shown.{AreAllShown, owed_or, hint_word, back_holder, holder_from}
 use Rattle.heap_model.specs.Layers.{LayerState}
-use Rattle.claim_rule.specs.Home.{AreHome}
+use Rattle.claim_rule.specs.Home.{AreHome, HasSlot}
 use Rattle.claim_rule.specs.Entries.{IsSettingOf, setting_of, entry, is_by, is_named}
 use Rattle.claim_rule.specs.Rule.{IsRuled, IsReady, ready_after}
 use Rattle.claim_rule.specs.Plays.{number_of, Goes}
 use Rattle.claim_rule.proofs.Holders.{back_holder_is, holder-append}
 use Rattle.claim_rule.proofs.Lists.{after-append, follow_join, named_by, named-append, by-append}
-use Rattle.claim_rule.proofs.Prepared.{SameHomes, homes_kept}
+use Rattle.claim_rule.proofs.Slots.{SameHomes, homes_kept, SameGuarded, homes_but}
 use Rattle.claim_rule.proofs.Words.{all_same}
 use Rattle.claim_rule.proofs.Quiet.{SameShown, same_shown}
 use Rattle.claim_rule.proofs.Advance.{before, by, leaves, setting_in, role_of, some_setting, holder_behind, setting_back, seen_behind}
@@ -54,6 +54,7 @@ use Rattle.step_parts.proofs.Front.{AreAlike, IsFront, IsFrontSpan, front_of, fr
 use Rattle.step_parts.proofs.Blocks.{into_lfh}
 use Rattle.step_parts.proofs.Placed.{claim_same, placed, IsPlaced}
 use Rattle.span_steps.proofs.Made.{made_shown, no_block, in_inserted}
+use Rattle.heap_model.specs.declared.What.{What}
 
 ---- A segment is reserved first, or not
 
@@ -176,13 +177,14 @@ module _ (l : Limits) (count : ℕ) (s us : Setting) (m : Configuration) (n : �
   block_held = placed_held s m1 n b (block_address b first i) can1.begun
 
   pub homes_same : SameHomes (after s m1 placing).state m.state
-  homes_same = record {
-    locks = ap (λ (f : GateAndLocks). f.locks) same.gate;
-    vs = λ _. same.vs;
-    spans = λ _. filter-insert_span (is_of_kind kinds.Vs) x m0.state.back.area.spans refl ∙ ap (Rattle.std.specs.Prelude.filter (is_of_kind kinds.Vs)) same.spans;
-    back = λ e. absurd (let z : None ≡ Some n = sym e ∙ held in let w : ⊥ = cc (z) in w);
-    large = λ _. same.large;
-  }
+  homes_same = homes_but (after s m1 placing).state m.state whats.Back (ap (λ (f : GateAndLocks). f.locks) same.gate) (λ e. let z : None ≡ Some n = sym e ∙ held in let w : ⊥ = cc (z) in w) kept
+    where
+      kept : (what : What) → HasSlot what → (what ≡ whats.Back → ⊥) → SameGuarded what (after s m1 placing).state m.state
+      kept whats.Vs has ne = (same.vs, filter-insert_span (is_of_kind kinds.Vs) x m0.state.back.area.spans refl ∙ ap (Rattle.std.specs.Prelude.filter (is_of_kind kinds.Vs)) same.spans)
+      kept whats.Back has ne = absurd (ne refl)
+      kept whats.Large has ne = same.large
+      kept whats.Gate has ne = absurd has
+      kept whats.Lfh has ne = absurd has
 
   -- both together
   pub all_is : configuration_after s m (making n reserve first pages b t ++ placing ∷ []) ≡ after s m1 placing

@@ -23,7 +23,7 @@ use Rattle.claim_rule.specs.Shown.{AreAllShown, lfh_spans, tag_of, bitmap_word, 
 use Rattle.claim_rule.specs.Entries.{entry}
 use Rattle.lfh_buckets.proofs.Seats.{block_seat}
 use Rattle.span_steps.specs.Installs.{owed_tags, owed_by_span}
-use Rattle.claim_rule.proofs.Behind.{stays, IsBehind, IsOwedSoundly, shown_behind}
+use Rattle.claim_rule.proofs.Behind.{stays, IsBehind, IsOwedSoundly, shown_behind, locks_stay}
 use Rattle.step_parts.proofs.Bits.{same_word_of}
 use Rattle.step_parts.proofs.Front.{IsFront, IsFrontSpan, some_pages}
 use Rattle.step_parts.proofs.Blocks.{in_lfh, into_lfh, seat_at}
@@ -227,10 +227,7 @@ module _ (l : Limits) (s : Setting) (m : Configuration) (n first pages b t : ℕ
   pub made_behind : IsBehind l made m owes_made owes 1 (gate_word m.state.gate)
   made_behind = record {
     gate = record { here = λ e. refl; else = λ e. refl };
-    lfh = stays 1 _ 2 _ _ (λ k. omega arith) refl;
-    vs = stays 1 _ 3 _ _ (λ k. omega arith) refl;
-    back = stays 1 _ 4 _ _ (λ k. omega arith) refl;
-    large = stays 1 _ 5 _ _ (λ k. omega arith) refl;
+    locks = locks_stay 1 _ _ _ (inl (omega arith)) refl;
     active = λ k lk. stays 1 _ (6 + k) _ _ (λ g. omega arith) refl;
     hints = λ c u lc hc fu. stays 1 _ (118 + 16 * c + u) _ _ (λ g. omega arith) (hint_owed c u hc fu);
     tags = λ page lp. stays 1 _ (2182 + page) _ _ (λ g. omega arith) (tag_owed page lp);

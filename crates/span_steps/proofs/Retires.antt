@@ -29,7 +29,7 @@ use Rattle.heap_model.specs.Layers.{LayerState}
 use Rattle.claim_rule.specs.Entries.{IsSettingOf, setting_of, entry}
 use Rattle.claim_rule.specs.Rule.{IsRuled, IsReady, ready_after}
 use Rattle.claim_rule.proofs.Holders.{back_holder_is}
-use Rattle.claim_rule.proofs.Prepared.{homes_kept}
+use Rattle.claim_rule.proofs.Slots.{homes_kept, SameGuarded, homes_but}
 use Rattle.claim_rule.proofs.Advance.{before, leaves, adds_of, setting_in, role_of, some_setting, holder_behind}
 use Rattle.claim_rule.proofs.Gate.{one_by, one_follows}
 use Rattle.claim_rule.specs.Places.{hint_at}
@@ -39,6 +39,8 @@ use Rattle.claim_rule.proofs.Behind.{owed_soundly}
 use Rattle.step_parts.proofs.Front.{front_here}
 use Rattle.claim_rule.proofs.Ready.{stable_here}
 use Rattle.span_steps.proofs.Freed.{freed_shown, found}
+use Rattle.heap_model.specs.declared.What.{What}
+use Rattle.claim_rule.specs.Home.{HasSlot}
 
 not_is : (z : Bool) → not z ≡ true → z ≡ false
 not_is true h = absurd (false≢true h)
@@ -112,6 +114,19 @@ module _ {T : Type 0} (stands : T → LayerState) (o : Opening) (slots id n firs
       (λ j. (back_same s q j, (before stands o st r id n me.0 es at h s q).carried.agrees.span_history (holds_it s q) j))
       ∙ (ready_at s q).value
 
+  -- what the other locks guard stays
+  back_else : (s : Setting) → IsSettingOf o r.lead.roll s → (what : What) → HasSlot what → (what ≡ whats.Back → ⊥) → SameGuarded what (after s (now_at s) (entry n deed)).state (now_at s).state
+  back_else s q whats.Vs has ne = (
+    refl,
+    filter-remove_found (is_of_kind kinds.Vs) (begins_at first) (now_at s).state.back.area.spans
+        (λ z e. ap (is_of_kind kinds.Vs) (found o.limits s (now_at s) n first pages b t (front_here stands o st r id n me.0 es at h s q) (there s q) (unused s q) (held s q) low high few r.owes
+        (owed_soundly o.limits r.lead.counted (now_at s) r.owes st.words (before stands o st r id n me.0 es at h s q).words) (zeros s q) z e)),
+  )
+  back_else s q whats.Back has ne = absurd (ne refl)
+  back_else s q whats.Large has ne = refl
+  back_else s q whats.Gate has ne = absurd has
+  back_else s q whats.Lfh has ne = absurd has
+
   pub retires : (w : View) × (a : Act (Option T)) × Valid st.homes me.1 a × IsRuled stands o (stepped st (hint_at b t) v id me.1 w a)
       × retired es first pages b t (step slots (hint_at b t) v 0 none) me v (w, carried_after me.1 a)
   retires =
@@ -124,14 +139,7 @@ module _ {T : Type 0} (stands : T → LayerState) (o : Opening) (slots id n firs
         one_follows s (now_at s) n deed d.whole (ap (λ (c : CallState). is_some c.call) d.carried.agrees.call ∙ (ready_at s q).begun) (ok_here s q),
         refl,
         freed_shown o.limits s (now_at s) n first pages b t f (there s q) (unused s q) (held s q) low high few r.owes w (zeros s q) r.lead.counted v st.words (value s q) d.words,
-        homes_kept stands o (after s (now_at s) (entry n deed)).state (now_at s).state st.homes (record {
-          locks = refl;
-          vs = λ _. refl;
-          spans = λ _. filter-remove_found (is_of_kind kinds.Vs) (begins_at first) (now_at s).state.back.area.spans
-              (λ z e. ap (is_of_kind kinds.Vs) (found o.limits s (now_at s) n first pages b t f (there s q) (unused s q) (held s q) low high few r.owes w (zeros s q) z e));
-          back = λ e. absurd (let z : None ≡ Some n = sym e ∙ held s q in let y : ⊥ = cc (z) in y);
-          large = λ _. refl;
-        }) d.home,
+        homes_kept stands o (after s (now_at s) (entry n deed)).state (now_at s).state st.homes (homes_but _ _ whats.Back refl (λ e. let z : None ≡ Some n = sym e ∙ held s q in let y : ⊥ = cc (z) in y) (back_else s q)) d.home,
       )) in
       (a.0, keeps, tt, a.1, record { adds = adds_of me (a.0, me.1) n es deed h.role a.2; slot = refl; owes = a.3 })
 

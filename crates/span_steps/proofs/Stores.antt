@@ -22,14 +22,16 @@ use Rattle.heap_model.specs.Layers.{LayerState}
 use Rattle.claim_rule.specs.Entries.{IsSettingOf, setting_of, entry}
 use Rattle.claim_rule.specs.Rule.{IsRuled, IsReady, ready_after}
 use Rattle.claim_rule.proofs.Holders.{back_holder_is}
-use Rattle.claim_rule.proofs.Prepared.{homes_kept}
+use Rattle.claim_rule.proofs.Slots.{homes_kept, SameGuarded, homes_but}
 use Rattle.claim_rule.proofs.Advance.{before, acts, leaves, adds_of, goes_of, setting_in, role_of, some_setting, holder_behind}
 use Rattle.claim_rule.proofs.Gate.{one_by, one_follows}
 use Rattle.claim_rule.specs.Places.{hint_at, active_at, tag_at}
 use Rattle.span_steps.specs.Stores.{MayActivate, activated, paid_off, owed_zero, put_word}
 use Rattle.span_steps.specs.Laws.{ActivateLaw, PutTagLaw, PutHintLaw, ClearTagLaw}
-use Rattle.claim_rule.proofs.Behind.{stays, IsBehind, IsOwedSoundly, owed_soundly, shown_behind, still_owed}
+use Rattle.claim_rule.proofs.Behind.{stays, IsBehind, IsOwedSoundly, owed_soundly, shown_behind, still_owed, locks_stay}
 use Rattle.claim_rule.proofs.Ready.{stable_here, holder_is_it}
+use Rattle.heap_model.specs.declared.What.{What}
+use Rattle.claim_rule.specs.Home.{HasSlot}
 
 ---- Owed words
 
@@ -59,10 +61,7 @@ module _ (l : Limits) (m : Configuration) (owes' owes : List Owed) (i v : ℕ) (
   owed_behind : 134 ≤ i → i < 2182 + 256 * l.segments → IsBehind l m m owes' owes i v
   owed_behind low high = record {
     gate = stays i v 1 _ _ (λ k. omega arith) refl;
-    lfh = stays i v 2 _ _ (λ k. omega arith) refl;
-    vs = stays i v 3 _ _ (λ k. omega arith) refl;
-    back = stays i v 4 _ _ (λ k. omega arith) refl;
-    large = stays i v 5 _ _ (λ k. omega arith) refl;
+    locks = locks_stay i v _ _ (inr (omega arith)) refl;
     active = λ k lk. stays i v (6 + k) _ _ (λ g. omega arith) refl;
     hints = λ b t lb hb ft. record { here = λ g. (hint_is b t lb hb ft (sym g)).0; else = λ g. other (118 + 16 * b + t) _ (λ z. g (sym z)) };
     tags = λ page lp. record { here = λ g. (tag_is page lp (sym g)).0; else = λ g. other (2182 + page) _ (λ z. g (sym z)) };
@@ -105,10 +104,7 @@ module _ {T : Type 0} (stands : T → LayerState) (o : Opening) (slots id n : �
   active_behind : (l : Limits) (s : Setting) (m : Configuration) (owes : List Owed) (b : ℕ) → b < 128 → IsBehind l (after s m (entry n (acts.Active (b + 1)))) m owes owes (active_at b) 1
   active_behind l s m owes b lt = record {
     gate = stays (active_at b) 1 1 _ _ (λ k. omega arith) refl;
-    lfh = stays (active_at b) 1 2 _ _ (λ k. omega arith) refl;
-    vs = stays (active_at b) 1 3 _ _ (λ k. omega arith) refl;
-    back = stays (active_at b) 1 4 _ _ (λ k. omega arith) refl;
-    large = stays (active_at b) 1 5 _ _ (λ k. omega arith) refl;
+    locks = locks_stay (active_at b) 1 _ _ (inr (omega arith)) refl;
     active = λ k lk. record {
       here = λ g. let same : k + 1 ≡ b + 1 = omega arith in let e = eq-eqb (k + 1) (b + 1) same in rw e refl;
       else = λ g. let e = ne_eqb (k + 1) (b + 1) (λ z. g (omega arith)) in rw e refl;
@@ -119,6 +115,14 @@ module _ {T : Type 0} (stands : T → LayerState) (o : Opening) (slots id n : �
     sizes = λ k lk. stays (active_at b) 1 (2182 + 1280 * l.segments + k) _ _ (λ g. omega arith) refl;
     stored = λ k lk. stays (active_at b) 1 (2182 + 66816 * l.segments + k) _ _ (λ g. omega arith) refl;
   }
+
+  -- what the other locks guard stays
+  vs_else : (s : Setting) (b : ℕ) (what : What) → HasSlot what → (what ≡ whats.Vs → ⊥) → SameGuarded what (after s (now_at s) (entry n (acts.Active (b + 1)))).state (now_at s).state
+  vs_else s b whats.Vs has ne = absurd (ne refl)
+  vs_else s b whats.Back has ne = refl
+  vs_else s b whats.Large has ne = refl
+  vs_else s b whats.Gate has ne = absurd has
+  vs_else s b whats.Lfh has ne = absurd has
 
   pub activates : (b : ℕ) → b < 128 → ((s : Setting) → IsSettingOf me.0.opening me.0.roll s → MayActivate s (ready_after s me.0 es) n b)
       → Storing (λ z m'. activated es b (step slots (active_at b) 1 0 none) me 1 m') (active_at b) 1 1
@@ -136,7 +140,7 @@ module _ {T : Type 0} (stands : T → LayerState) (o : Opening) (slots id n : �
         shown_behind o.limits r.lead.counted (after s (now_at s) (entry n deed)) (now_at s) r.owes r.owes st.words (active_at b) 1 (omega arith) (omega arith)
             (active_behind o.limits s (now_at s) r.owes b lt)
             (still_owed o.limits (after s (now_at s) (entry n deed)) (now_at s) r.owes refl refl refl (owed_soundly o.limits r.lead.counted (now_at s) r.owes st.words d.words)) d.words,
-        homes_kept stands o (after s (now_at s) (entry n deed)).state (now_at s).state st.homes (record { locks = refl; vs = λ e. absurd (locked e); spans = λ _. refl; back = λ _. refl; large = λ _. refl }) d.home,
+        homes_kept stands o (after s (now_at s) (entry n deed)).state (now_at s).state st.homes (homes_but _ _ whats.Vs refl locked (vs_else s b)) d.home,
       )) in
       (a.0, keeps, tt, a.1, record { adds = adds_of me (a.0, me.1) n es deed h.role a.2; slot = refl; owes = a.3 })
 

@@ -8,7 +8,7 @@ use Rattle.heap_model.specs.declared.Layer.TheVariants as layers
 use Rattle.heap_model.specs.declared.Limits.{Limits}
 use Rattle.heap_model.specs.Bits.{starts_at, bits_of, is_taken}
 use Rattle.heap_model.specs.Buckets.{block_count, block_address}
-use Rattle.heap_model.specs.State.{State as HeapState, Span, Place, Status, address, has_address, live_size, change_found, remove_found, gate_word, caller_word}
+use Rattle.heap_model.specs.State.{State as HeapState, Span, Place, Status, address, has_address, live_size, change_found, remove_found, gate_word}
 use Rattle.heap_model.specs.CallState.{Configuration, SpanHistory}
 use Rattle.heap_model.specs.Search.{begins_at}
 use Rattle.heap_model.specs.Legal.{with_status}
@@ -16,7 +16,7 @@ use Rattle.heap_soundness.specs.Sound.{IsOneOf}
 use Rattle.heap_soundness.proofs.Lists.{all_at, all_from, found_in, found_passes}
 use Rattle.claim_rule.specs.declared.views.Owed.{Owed}
 use Rattle.claim_rule.specs.Shown.{lfh_spans, flag, bitmap_word, size_word, owed_or, tag_word, hint_word}
-use Rattle.claim_rule.proofs.Behind.{Becomes, stays, IsBehind, IsOwedSoundly, still_owed}
+use Rattle.claim_rule.proofs.Behind.{Becomes, stays, IsBehind, IsOwedSoundly, still_owed, locks_stay}
 use Rattle.step_parts.proofs.Bits.{same_word_of}
 use Rattle.step_parts.proofs.Front.{HaveOwnStarts}
 use Rattle.step_parts.proofs.Starts.{begins, OfLfh, same_removed, same_changed, any_changed}
@@ -33,10 +33,7 @@ module _ (l : Limits) (m' m : Configuration) (owes : List Owed) (at v : ℕ) (qs
       → IsBehind l m' m owes owes at v
   places_only low high bits sizes = record {
     gate = stays at v 1 _ _ (λ k. omega arith) (ap (λ (x : HeapState). gate_word x.gate) e);
-    lfh = stays at v 2 _ _ (λ k. omega arith) (ap (λ (x : HeapState). caller_word x.gate.locks.lfh) e);
-    vs = stays at v 3 _ _ (λ k. omega arith) (ap (λ (x : HeapState). caller_word x.gate.locks.vs) e);
-    back = stays at v 4 _ _ (λ k. omega arith) (ap (λ (x : HeapState). caller_word x.gate.locks.back) e);
-    large = stays at v 5 _ _ (λ k. omega arith) (ap (λ (x : HeapState). caller_word x.gate.locks.large) e);
+    locks = locks_stay at v _ _ (inr (omega arith)) (ap (λ (x : HeapState). x.gate.locks) e);
     active = λ k lk. stays at v (6 + k) _ _ (λ g. omega arith) (ap (λ (x : HeapState). flag (x.vs.active (k + 1))) e);
     hints = λ b t lb hb ft. stays at v (118 + 16 * b + t) _ _ (λ g. omega arith) (ap (λ (z : HeapState × SpanHistory). owed_or owes (118 + 16 * b + t) (hint_word z.0.back.area z.1 b t)) (λ j. (e j, h j)));
     tags = λ page lp. stays at v (2182 + page) _ _ (λ g. omega arith) (ap (λ (x : HeapState). owed_or owes (2182 + page) (tag_word (lfh_spans x.back.area) page)) e);

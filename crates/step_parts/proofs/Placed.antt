@@ -30,7 +30,7 @@ use Rattle.claim_rule.specs.Shown.{AreAllShown, lfh_spans, bitmap_word, size_wor
 use Rattle.claim_rule.specs.Entries.{entry}
 use Rattle.step_parts.specs.Seen.{IsSeen}
 use Rattle.step_parts.specs.Claims.{CanClaim, MayClaim, owed_by_place, IsUnder}
-use Rattle.claim_rule.proofs.Behind.{stays, IsBehind, IsOwedSoundly, owed_soundly, shown_behind, still_owed}
+use Rattle.claim_rule.proofs.Behind.{stays, IsBehind, IsOwedSoundly, owed_soundly, shown_behind, still_owed, locks_stay}
 use Rattle.step_parts.proofs.Front.{IsFront}
 use Rattle.step_parts.proofs.Blocks.{in_lfh, seat_at, words_kept, set_word, bit_here, word_at, at_below}
 use Rattle.step_parts.proofs.Filters.{into_filter}
@@ -139,10 +139,7 @@ module _ (l : Limits) (s : Setting) (m : Configuration) (n : ℕ) (f : IsFront l
       let v : ℕ = bit_or word (bit_of_block i) in
       record {
         gate = stays at v 1 _ _ (λ k. omega arith) refl;
-        lfh = stays at v 2 _ _ (λ k. omega arith) refl;
-        vs = stays at v 3 _ _ (λ k. omega arith) refl;
-        back = stays at v 4 _ _ (λ k. omega arith) refl;
-        large = stays at v 5 _ _ (λ k. omega arith) refl;
+        locks = locks_stay at v _ _ (inr (omega arith)) refl;
         active = λ k lk. stays at v (6 + k) _ _ (λ g. omega arith) refl;
         hints = λ b t lb hb ft. stays at v (118 + 16 * b + t) _ _ (λ g. omega arith) (hints b t lb hb ft);
         tags = λ page lp. stays at v (2182 + page) _ _ (λ g. omega arith) (tags page _);
