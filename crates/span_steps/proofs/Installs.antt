@@ -119,7 +119,7 @@ module _ (l : Limits) (count : ℕ) (s us : Setting) (m : Configuration) (n : �
     spans = λ y j k. front.spans y (subst (IsOneOf y) same.spans j) k;
     places = subst (λ (z : List Span × List Place). Rattle.std.specs.List.AllByRecursion (λ p. Rattle.heap_soundness.specs.Sound.IsInLfh z.0 p.start p.granules) z.1) (λ j. (sym same.spans j, sym same.lfh j)) front.places;
     layers = subst (λ (z : List Place). Rattle.std.specs.List.AllByRecursion (λ p. p.layer ≡ layers.Lfh) z) (sym same.lfh) front.layers;
-    apart = subst Rattle.step_parts.proofs.Front.HaveOwnStarts (sym same.lfh) front.apart;
+    apart = subst Rattle.step_parts.specs.Starts.HaveOwnStarts (sym same.lfh) front.apart;
   }
 
   shown0 : AreAllShown l count m0 owes words

@@ -34,6 +34,7 @@ use Rattle.claim_rule.specs.Rule.{IsRuled, IsReady}
 use Rattle.claim_rule.proofs.Lists.{after-append, follow_join, legal_parts, named-append, named_by}
 use Rattle.claim_rule.proofs.Advance.{before, role_of, some_setting, by}
 use Rattle.claim_rule.specs.Entries.{IsSettingOf, is_named, have_slots, setting_of, slot_at}
+use Rattle.step_parts.specs.Starts.{HaveOwnStarts}
 
 ---- One configuration in all settings of the same callers
 
@@ -86,11 +87,6 @@ pub valid_setting : (o : Opening) (roll : List Assignment) → Rattle.heap_model
 valid_setting o roll l h = let some = l.slots in record { limits = l; slot = λ c lt. slots_below o.limits.slots roll c (omega arith) h }
 
 ---- The front end
-
--- no two begin at one address
-abbrev pub HaveOwnStarts : List Place → Type 0
-HaveOwnStarts [] = Unit {0}
-HaveOwnStarts (p ∷ ps) = AllByRecursion (λ q. p.start ≡ q.start → ⊥) ps × HaveOwnStarts ps
 
 pub record IsFrontSpan (l : Limits) (x : Span) : Type 0 where
   pub kind : x.kind ≡ kinds.Lfh

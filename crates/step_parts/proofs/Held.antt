@@ -14,7 +14,7 @@ use Rattle.heap_soundness.specs.Sound.{IsOneOf}
 use Rattle.search_laws.proofs.Blocks.{whole_granules}
 use Rattle.claim_rule.specs.Entries.{entry}
 use Rattle.step_parts.specs.Hands.{HasBlock}
-use Rattle.step_parts.proofs.Front.{HaveOwnStarts}
+use Rattle.step_parts.specs.Starts.{HaveOwnStarts}
 use Rattle.step_parts.proofs.Starts.{begins, OfLfh}
 use Rattle.step_parts.proofs.Hands.{with_lfh, lfh_address, changed_is, found_is}
 

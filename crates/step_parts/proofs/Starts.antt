@@ -5,7 +5,7 @@ use Rattle.std.proofs.lemmas.Bool.{cases_Bool, eqb-true, ne_eqb}
 use Rattle.heap_model.specs.declared.Layer.TheVariants as layers
 use Rattle.heap_model.specs.declared.Layer.{Layer}
 use Rattle.heap_model.specs.State.{Place, address, has_address, remove_found, change_found}
-use Rattle.step_parts.proofs.Front.{HaveOwnStarts}
+use Rattle.step_parts.specs.Starts.{HaveOwnStarts}
 
 abbrev pub begins : ℕ → Place → Bool
 begins a p = eqb p.start a

@@ -1,3 +1,4 @@
 pub mod Seen
 pub mod Hands
 pub mod Claims
+pub mod Starts
