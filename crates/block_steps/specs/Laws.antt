@@ -43,16 +43,16 @@ module _ {T : Type 0} (stands : T → LayerState) where
   -- A live block is taken in hand, or none is there.
   abbrev pub TakeBlockLaw : Type 0
   TakeBlockLaw =
-      (o : Opening) (slots id n head b t i : ℕ) (me : Me (Option T) View) (es : List Entry) → IsReady n me.0 es
-      → ((s : Setting) → IsSettingOf me.0.opening me.0.roll s → MayAsk (ready_after s me.0 es) n head b t i)
-      → Allows (IsRuled stands o) slots id me (size_at o.limits (block_address b head i)) (λ _. 0) (taken_block es b (block_address b head i) (step slots (size_at o.limits (block_address b head i)) 0 0 none) me)
+      (o : Opening) (slots id n head b t addr : ℕ) (me : Me (Option T) View) (es : List Entry) → IsReady n me.0 es
+      → ((s : Setting) → IsSettingOf me.0.opening me.0.roll s → MayAsk (ready_after s me.0 es) n head b t addr)
+      → Allows (IsRuled stands o) slots id me (size_at o.limits addr) (λ _. 0) (taken_block es head b addr (step slots (size_at o.limits addr) 0 0 none) me)
 
   -- The size of a live block is read, or none is there.
   abbrev pub SizeLaw : Type 0
   SizeLaw =
-      (o : Opening) (slots id n head b t i : ℕ) (me : Me (Option T) View) (es : List Entry) → IsReady n me.0 es
-      → ((s : Setting) → IsSettingOf me.0.opening me.0.roll s → MayAsk (ready_after s me.0 es) n head b t i)
-      → Allows (IsRuled stands o) slots id me (size_at o.limits (block_address b head i)) (λ x. x) (sized es (block_address b head i) (step slots (size_at o.limits (block_address b head i)) 0 0 none) me)
+      (o : Opening) (slots id n head b t addr : ℕ) (me : Me (Option T) View) (es : List Entry) → IsReady n me.0 es
+      → ((s : Setting) → IsSettingOf me.0.opening me.0.roll s → MayAsk (ready_after s me.0 es) n head b t addr)
+      → Allows (IsRuled stands o) slots id me (size_at o.limits addr) (λ x. x) (sized es addr (step slots (size_at o.limits addr) 0 0 none) me)
 
   -- A caller reads a word of the bitmap of a subsegment that it has seen.
   abbrev pub SeeLaw : Type 0

@@ -47,7 +47,7 @@ impl<T, B: Target, E: Carried> Play<Option<T>, View> for TakesBlock<B, E> {
     ghost use Rattle.block_steps.specs.Blocks.{taken_block};
     ghost use Rattle.heap_model.specs.Buckets.{block_address};
 
-    ghost then = { taken_block E.entries B.bucket (block_address B.bucket B.head B.index) };
+    ghost then = { taken_block E.entries B.head B.bucket B.number };
 }
 
 /// The size of a live block is read, or none is there.
@@ -59,7 +59,7 @@ impl<T, B: Target, E: Carried> Play<Option<T>, View> for AsksSize<B, E> {
     ghost use Rattle.block_steps.specs.Blocks.{sized};
     ghost use Rattle.heap_model.specs.Buckets.{block_address};
 
-    ghost then = { sized E.entries (block_address B.bucket B.head B.index) };
+    ghost then = { sized E.entries B.number };
 }
 
 /// A word of a bitmap is read.

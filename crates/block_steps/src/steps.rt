@@ -82,11 +82,11 @@ pub fn take_block_as<T: Stands, B: Target, E: Carried>(
     word: usize,
 ) -> u64
     requires table { (place.old.table_id ≡ top.now.table_id) × (word < top.now.table_id.words) }
-    requires word { word ≡ size_at top.now.key.limits (block_address B.bucket B.head B.index) }
+    requires word { word ≡ size_at top.now.key.limits B.number }
     requires ready { IsReady (number_of place.old.me.0.role) place.old.me.0 E.entries }
-    requires may { (s : Setting) → IsSettingOf place.old.me.0.opening place.old.me.0.roll s → MayAsk (ready_after s place.old.me.0 E.entries) (number_of place.old.me.0.role) B.head B.bucket B.slot B.index }
+    requires may { (s : Setting) → IsSettingOf place.old.me.0.opening place.old.me.0.roll s → MayAsk (ready_after s place.old.me.0 E.entries) (number_of place.old.me.0.role) B.head B.bucket B.slot B.number }
     ensures table { place.new.table_id ≡ place.old.table_id }
-    ensures told { taken_block E.entries B.bucket (block_address B.bucket B.head B.index) (step top.now.table_id.slots word 0 0 none) place.old.me result place.new.me }
+    ensures told { taken_block E.entries B.head B.bucket B.number (step top.now.table_id.slots word 0 0 none) place.old.me result place.new.me }
 {
     top.swap::<TakesBlock<B, E>>(place, word, 0)
 }
@@ -98,11 +98,11 @@ pub fn size_as<T: Stands, B: Target, E: Carried>(
     word: usize,
 ) -> u64
     requires table { (place.old.table_id ≡ top.now.table_id) × (word < top.now.table_id.words) }
-    requires word { word ≡ size_at top.now.key.limits (block_address B.bucket B.head B.index) }
+    requires word { word ≡ size_at top.now.key.limits B.number }
     requires ready { IsReady (number_of place.old.me.0.role) place.old.me.0 E.entries }
-    requires may { (s : Setting) → IsSettingOf place.old.me.0.opening place.old.me.0.roll s → MayAsk (ready_after s place.old.me.0 E.entries) (number_of place.old.me.0.role) B.head B.bucket B.slot B.index }
+    requires may { (s : Setting) → IsSettingOf place.old.me.0.opening place.old.me.0.roll s → MayAsk (ready_after s place.old.me.0 E.entries) (number_of place.old.me.0.role) B.head B.bucket B.slot B.number }
     ensures table { place.new.table_id ≡ place.old.table_id }
-    ensures told { sized E.entries (block_address B.bucket B.head B.index) (step top.now.table_id.slots word 0 0 none) place.old.me result place.new.me }
+    ensures told { sized E.entries B.number (step top.now.table_id.slots word 0 0 none) place.old.me result place.new.me }
 {
     top.load::<AsksSize<B, E>>(place, word)
 }
