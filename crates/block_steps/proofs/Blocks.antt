@@ -33,7 +33,6 @@ use Rattle.claim_rule.proofs.Words.{all_same, all_kept}
 use Rattle.claim_rule.specs.Plays.{number_of}
 use Rattle.claim_rule.proofs.Advance.{before, acts, adds_of, setting_in, setting_back, seen_behind, some_setting}
 use Rattle.claim_rule.proofs.Gate.{one_by, one_follows}
-use Rattle.step_parts.specs.Seen.{IsSeen}
 use Rattle.step_parts.specs.Hands.{IsInHand, HasBlock, IsBlockNumber}
 use Rattle.block_steps.specs.Blocks.{MayClear, MayPublish, MayAsk, HasNone, cleared, published, taken_block, sized}
 use Rattle.block_steps.specs.Laws.{ClearLaw, PublishLaw, TakeBlockLaw, SizeLaw}
@@ -42,7 +41,7 @@ use Rattle.step_parts.proofs.Held.{found_lfh, taken_held}
 use Rattle.step_parts.proofs.Blocks.{in_lfh}
 use Rattle.step_parts.proofs.Starts.{begins}
 use Rattle.step_parts.proofs.Hands.{with_lfh, lfh_address}
-use Rattle.step_parts.proofs.Lasting.{still_there}
+use Rattle.step_parts.proofs.Lasting.{still_there, seen_still}
 use Rattle.claim_rule.proofs.Ready.{stable_here}
 use Rattle.block_steps.proofs.Sizes.{no_unspan, drops, gives_size, takes_size}
 use Rattle.block_steps.proofs.SizeWords.{not_live, live_there, block_there}
@@ -76,9 +75,6 @@ module _ {T : Type 0} (stands : T → LayerState) (o : Opening) (id n : ℕ) (me
       let a = (before stands o st r id n me.0 es at h s q).carried.agrees in
       record { begun = ap (λ (c : CallState). is_some c.call) a.call ∙ k.begun; place = k.place; hand = same_hand_at s n (there s) (ready_after s me.0 es) a addr ∙ k.hand; layer = k.layer }
 
-  seen_here : (s : Setting) (q : IsSettingOf o r.lead.roll s) (head b t : ℕ) → is_entered (ready_after s me.0 es).state.gate n ≡ true → IsSeen (ready_after s me.0 es) head b t → IsSeen (there s) head b t
-  seen_here s q head b t inside z = record { span = z.span; there = still_there stands o st r id n me.0 es at h s q z.span inside z.there; begins = z.begins; bucket = z.bucket; slot = z.slot }
-
   homes_here : (s : Setting) (q : IsSettingOf o r.lead.roll s) → HasHomes (there s).state
   homes_here s q = (keeps_here stands o st r id n me.0 es at h s q).homes
 
@@ -92,7 +88,7 @@ module _ {T : Type 0} (stands : T → LayerState) (o : Opening) (id n : ℕ) (me
       let d = before stands o st r id n me.0 es at h s q in
       let k = ok s (setting_in stands o st r id n me.0 es at h s q) in
       let hand = in_hand_here s q addr k.hand in
-      let seen = seen_here s q head b t k.inside k.seen in (
+      let seen = seen_still stands o st r id n me.0 es at h s q k.inside head b t k.seen in (
         one_follows s (there s) n deed d.whole hand.begun (stable_here s n (there s) (ready_after s me.0 es) deed d.carried.agrees d.whole (h.whole s (setting_in stands o st r id n me.0 es at h s q)) refl k.hand.begun k.ok),
         no_unspan n (hand_at (there s).state n addr) hand.place hand.hand hand.layer,
         drops o.limits r.lead.counted s (there s) n r.owes st.words (front_here stands o st r id n me.0 es at h s q) (homes_here s q) d.words head b t i seen k.below hand,

@@ -36,7 +36,7 @@ use Rattle.step_parts.specs.Claims.{CanClaim, MayClaim, owed_by_place, IsUnder}
 use Rattle.block_steps.specs.Claims.{claimed}
 use Rattle.block_steps.specs.Laws.{ClaimLaw}
 use Rattle.step_parts.proofs.Front.{front_here}
-use Rattle.step_parts.proofs.Lasting.{still_there}
+use Rattle.step_parts.proofs.Lasting.{seen_still}
 use Rattle.step_parts.proofs.Placed.{claim_same, under_same, placed, lost, bit_is}
 
 module _ {T : Type 0} (stands : T → LayerState) (o : Opening) (slots id n head b t i : ℕ) (back : Bool) (hint : ℕ) (me : Me (Option T) View) (es : List Entry) (h : IsReady n me.0 es) (ft : t < 16)
@@ -59,7 +59,7 @@ module _ {T : Type 0} (stands : T → LayerState) (o : Opening) (slots id n head
   can s q =
       let k = ok s (setting_in stands o st r id n me.0 es at h s q) in
       claim_same s n head b t i (there s) (ready_after s me.0 es) (before stands o st r id n me.0 es at h s q).carried.agrees
-      (λ z. record { span = z.span; there = still_there stands o st r id n me.0 es at h s q z.span k.0.can.inside z.there; begins = z.begins; bucket = z.bucket; slot = z.slot }) k.0
+      (seen_still stands o st r id n me.0 es at h s q k.0.can.inside head b t) k.0
 
   bits : (s : Setting) (q : IsSettingOf o r.lead.roll s) → has_bit found (i % 64) ≡ starts_at (there s).state.lfh (block_address b head i)
   bits s q = bit_is o.limits r.lead.counted s (there s) n i back r.owes st.words (front_here stands o st r id n me.0 es at h s q) (before stands o st r id n me.0 es at h s q).words head b t (can s q)

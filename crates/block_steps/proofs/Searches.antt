@@ -45,7 +45,7 @@ use Rattle.step_parts.proofs.Front.{IsFront, front_here, keeps_here, some_pages}
 use Rattle.step_parts.proofs.Blocks.{in_lfh, into_lfh, span_found}
 use Rattle.step_parts.proofs.Filters.{into_filter}
 use Rattle.step_parts.proofs.Placed.{hint_head}
-use Rattle.step_parts.proofs.Lasting.{still_there}
+use Rattle.step_parts.proofs.Lasting.{seen_still}
 use Rattle.block_steps.proofs.Calm.{IsSince, since}
 
 -- a subsegment that was seen is among those of its bucket and slot
@@ -140,9 +140,6 @@ module _ {T : Type 0} (stands : T → LayerState) (o : Opening) (id n : ℕ) (me
   abbrev Reading : (ℕ → Me (Option T) View → Type 0) → ℕ → Type 0
   Reading tells word = (w : View) × (a : Act (Option T)) × Valid st.homes me.1 a × IsRuled stands o (stepped st word (get_or st.words word 0) id me.1 w a) × tells (get_or st.words word 0) (w, carried_after me.1 a)
 
-  seen_here : (s : Setting) (q : IsSettingOf o r.lead.roll s) (head b t : ℕ) → is_entered (ready_after s me.0 es).state.gate n ≡ true → IsSeen (ready_after s me.0 es) head b t → IsSeen (there s) head b t
-  seen_here s q head b t inside z = record { span = z.span; there = still_there stands o st r id n me.0 es at h s q z.span inside z.there; begins = z.begins; bucket = z.bucket; slot = z.slot }
-
   -- a word is read, with an own entry that leaves the heap
   pub sees_word : (slots head b t word : ℕ) → word < 4 → ((s : Setting) → IsSettingOf me.0.opening me.0.roll s → MaySee s (ready_after s me.0 es) n head b t word)
       → Reading (saw es head word (step slots (word_at_page o.limits head word) 0 0 none) me) (word_at_page o.limits head word)
@@ -154,7 +151,7 @@ module _ {T : Type 0} (stands : T → LayerState) (o : Opening) (id n : ℕ) (me
       let d = before stands o st r id n me.0 es at h s q in
       let k = ok s (setting_in stands o st r id n me.0 es at h s q) in
       let v = caller_view_same n (there s) (ready_after s me.0 es) d.carried.agrees in
-      let seen = seen_here s q head b t k.inside k.seen in
+      let seen = seen_still stands o st r id n me.0 es at h s q k.inside head b t k.seen in
       let seeks = same_search s n (there s) (ready_after s me.0 es) d.carried.agrees k.old b k.seeks ∙ k.seeks in
       let sees = see_same n head b t word (search_key_of s n ((ready_after s me.0 es).now.calls n) b) (there s) (ready_after s me.0 es) d.carried.agrees (since stands o st r id n me.0 es at h s q k.inside) seen refl k.slot k.sees in
       let sees' = subst (λ (c : CallState). may_see (there s).state.back.area (there s).now.span_history ((there s).now.disturbed n) (caller_view (there s) n) (search_key_of s n c b) head word ≡ true) (sym d.carried.agrees.call) sees in (

@@ -245,7 +245,7 @@ module _ {T : Type 0} (stands : T → LayerState) (o : Opening) (slots id n : �
             alone = λ own e. exact (free_of o.limits (now_at s) f n d.gate own e);
             mine = λ e. k.0 ∙ ap (λ (z : List Owed). owed_or z (2182 + page) (tag_word (lfh_spans (now_at s).state.back.area) page)) (sym (owed_here s g e));
             tagged = λ nz. ⊎_elim
-                (λ (z : get_or st.words (tag_at page) 0 ≡ tag_word (lfh_spans (now_at s).state.back.area) page). tagged (now_at s) page (get_or st.words (tag_at page) 0) z nz)
+                (λ (z : get_or st.words (tag_at page) 0 ≡ tag_word (lfh_spans (now_at s).state.back.area) page). tagged o.limits (now_at s) f r.numbers.limits.slots page (get_or st.words (tag_at page) 0) z nz)
                 (λ (z : get_or st.words (tag_at page) 0 ≡ 0). absurd (nz z)) k.1;
           }
 

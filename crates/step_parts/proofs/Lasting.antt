@@ -27,6 +27,7 @@ use Rattle.claim_rule.proofs.Prepared.{carried}
 use Rattle.claim_rule.proofs.Advance.{before, role_of, some_setting, setting_in}
 use Rattle.step_parts.proofs.Front.{usual, valid_setting, through_same}
 use Rattle.step_parts.proofs.Blocks.{in_lfh, into_lfh}
+use Rattle.step_parts.specs.Seen.{IsSeen}
 
 spans_through : (s : Setting) (m : Configuration) (fs : List Entry) (c : ℕ) → IsValidSetting s → Keeps s m → may_all_follow s m fs ≡ true → own c fs ≡ [] → is_entered m.state.gate c ≡ true →
     (x : Span) → x.kind ≡ kinds.Lfh → IsOneOf x m.state.back.area.spans → IsOneOf x (configuration_after s m fs).state.back.area.spans
@@ -81,3 +82,7 @@ module _ {T : Type 0} (stands : T → LayerState) (o : Opening) (st : TableState
       (subst (λ (m : Configuration). is_entered m.state.gate n ≡ true) seen_same in0) x x0.1 (subst (λ (m : Configuration). IsOneOf x m.state.back.area.spans) seen_same x0.0) in
       let is : configuration_after home (configuration_of home v.seen) k.seen.list_begins.0 ≡ configuration_of s r.log = sym (after-append home first_configuration v.seen k.seen.list_begins.0) ∙ (ap (configuration_of home) k.seen.list_begins.1 ∙ log_same) in
       subst (IsOneOf x) (sym all.shown.spans) (into_lfh (configuration_of s r.log).state.back.area.spans x (subst (λ (m : Configuration). IsOneOf x m.state.back.area.spans) is x1) x0.1)
+
+  -- .. with its bucket and slot
+  pub seen_still : is_entered (ready_after s v es).state.gate n ≡ true → (head b t : ℕ) → IsSeen (ready_after s v es) head b t → IsSeen (configuration_after s (configuration_of s r.log) es) head b t
+  seen_still inside head b t z = record { span = z.span; there = still_there z.span inside z.there; begins = z.begins; bucket = z.bucket; slot = z.slot }
