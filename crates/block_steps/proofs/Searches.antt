@@ -41,12 +41,12 @@ use Rattle.step_parts.specs.Seen.{IsSeen}
 use Rattle.claim_rule.specs.Places.{word_at_page, hint_at}
 use Rattle.block_steps.specs.Searches.{MaySee, MayHint, IsHinted, saw, hinted}
 use Rattle.block_steps.specs.Laws.{SeeLaw, HintLaw}
-use Rattle.step_parts.proofs.Front.{IsFront, front_here, keeps_here, some_pages}
-use Rattle.step_parts.proofs.Blocks.{in_lfh, into_lfh, span_found}
+use Rattle.step_parts.proofs.FrontEnd.{IsFront, front_here, keeps_here, some_pages}
+use Rattle.step_parts.proofs.BlockWords.{in_lfh, into_lfh, span_found}
 use Rattle.step_parts.proofs.Filters.{into_filter}
 use Rattle.step_parts.proofs.Placed.{hint_head}
-use Rattle.step_parts.proofs.Lasting.{seen_still}
-use Rattle.block_steps.proofs.Calm.{IsSince, since}
+use Rattle.step_parts.proofs.Stays.{seen_still}
+use Rattle.block_steps.proofs.Undisturbed.{IsSince, since}
 
 -- a subsegment that was seen is among those of its bucket and slot
 pub among_seen : (m : Configuration) (head b t : ℕ) (z : IsSeen m head b t) → IsOneOf z.span (spans_of m.state.back.area b t)

@@ -18,11 +18,11 @@ use Rattle.heap_soundness.proofs.Lists.{all_at, any_found, found_in, found_passe
 use Rattle.heap_soundness.proofs.Spans.{same_span}
 use Rattle.claim_rule.specs.Shown.{size_word}
 use Rattle.claim_rule.proofs.Advance.{before, acts}
-use Rattle.step_parts.proofs.Front.{IsFront, some_pages}
-use Rattle.step_parts.proofs.Blocks.{seat_at}
+use Rattle.step_parts.proofs.FrontEnd.{IsFront, some_pages}
+use Rattle.step_parts.proofs.BlockWords.{seat_at}
 use Rattle.step_parts.proofs.Starts.{begins}
-use Rattle.step_parts.proofs.Hands.{lfh_address, size_is}
-use Rattle.step_parts.specs.Hands.{IsBlockNumber}
+use Rattle.step_parts.proofs.ChangedPlaces.{lfh_address, size_is}
+use Rattle.step_parts.specs.InHand.{IsBlockNumber}
 
 module _ (us : Setting) (m : Configuration) (k : Keeps us m) (f : IsFront us.limits m.state.back.area m.state.lfh) (x : Span) (there : IsOneOf x m.state.back.area.spans) (is : x.kind ≡ kinds.Lfh)
     (spot : ℕ) (low : x.first ≤ spot / 4096) (high : spot / 4096 < x.first + x.pages) (whole : spot % 16 ≡ 0) where

@@ -13,7 +13,7 @@ use Rattle.claim_rule.specs.Plays.{Adds, number_of}
 use Rattle.claim_rule.specs.Entries.{IsSettingOf}
 use Rattle.heap_model.specs.History.{configuration_of}
 use Rattle.step_parts.specs.Seen.{IsSeen}
-use Rattle.step_parts.specs.Hands.{IsInHand, HasBlock, IsBlockNumber}
+use Rattle.step_parts.specs.InHand.{IsInHand, HasBlock, IsBlockNumber}
 use Rattle.heap_model.specs.Backend.{in_span}
 
 pub record MayClear (s : Setting) (m : Configuration) (n head b t i : ℕ) : Type 0 where

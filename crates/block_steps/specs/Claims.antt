@@ -11,7 +11,7 @@ use Rattle.claim_rule.specs.declared.views.View.{View}
 use Rattle.heap_model.specs.History.{configuration_of}
 use Rattle.claim_rule.specs.Entries.{IsSettingOf}
 use Rattle.claim_rule.specs.Plays.{Adds, number_of}
-use Rattle.step_parts.specs.Hands.{HasBlock}
+use Rattle.step_parts.specs.InHand.{HasBlock}
 use Rattle.step_parts.specs.Claims.{owed_by_place}
 
 module _ {T : Type 0} (es : List Entry) (head b t i : ℕ) (back : Bool) (hint : ℕ) (st : Step (Option T)) (m : Me (Option T) View) (r : ℕ) (m' : Me (Option T) View) where

@@ -11,7 +11,7 @@ use Rattle.std.specs.Prelude.{Bool}
 use Rattle.heap_model.specs.declared.What.{What}
 use Rattle.claim_rule.proofs.Quiet.{SameShown, same_shown}
 use Rattle.claim_rule.proofs.Words.{hint_same, lfh_same}
-use Rattle.claim_rule.proofs.Whats.{same_what, words_apart, lock_low, holder_here, holder_else}
+use Rattle.claim_rule.proofs.LockWords.{same_what, words_apart, lock_low, holder_here, holder_else}
 
 -- what the word j shows: the new value where it is the one that is written, else what it showed
 pub record Becomes (i v j new old : ℕ) : Type 0 where

@@ -13,7 +13,7 @@ use Rattle.heap_model.specs.Legal.{with_holder}
 use Rattle.heap_model.specs.Agreement.{AgreesFor}
 use Rattle.heap_model.specs.Layers.{LayerState, sorted_vs, sorted_back}
 use Rattle.claim_rule.specs.Home.{slot_of, HasSlot, Tells, AreHome}
-use Rattle.claim_rule.proofs.Whats.{same_what, slots_apart, slot_low, of_layer, holder_here, holder_else}
+use Rattle.claim_rule.proofs.LockWords.{same_what, slots_apart, slot_low, of_layer, holder_here, holder_else}
 
 ---- What a lock guards
 

@@ -41,7 +41,7 @@ use Rattle.lock_steps.specs.Locks.{owed_with, IsPaid, MayTake, MayGiveBack, took
 use Rattle.claim_rule.proofs.Behind.{stays, IsBehind, IsOwedSoundly, owed_soundly, shown_behind, none_owed, still_owed, low_behind, lock_changes}
 use Rattle.claim_rule.proofs.Ready.{stable_here, holder_is_it}
 use Rattle.claim_rule.proofs.Slots.{tells_gate, tells_same, slot_same, homes_taken, homes_given}
-use Rattle.claim_rule.proofs.Whats.{lock_low, of_layer}
+use Rattle.claim_rule.proofs.LockWords.{lock_low, of_layer}
 use Rattle.heap_model.specs.Search.{hint_or, first_of, spans_of}
 
 pub take_same : (n : ℕ) (what : What) (m k : Configuration) → AgreesFor n m k → MayTake k n what → MayTake m n what

@@ -28,10 +28,10 @@ use Rattle.claim_rule.proofs.Advance.{before, acts, adds_of, setting_in}
 use Rattle.claim_rule.proofs.Gate.{one_by, one_follows, out_same}
 use Rattle.look_steps.specs.Denials.{MayDeny, denied, denied_left}
 use Rattle.look_steps.specs.Laws.{DenyLaw, DenyGiveLaw, DenyLeaveLaw}
-use Rattle.step_parts.proofs.Front.{keeps_here, usual}
-use Rattle.step_parts.proofs.Lasting.{still_there}
+use Rattle.step_parts.proofs.FrontEnd.{keeps_here, usual}
+use Rattle.step_parts.proofs.Stays.{still_there}
 use Rattle.lock_steps.proofs.Locks.{view_denied, gives_denied}
-use Rattle.look_steps.proofs.Denied.{denied_ok}
+use Rattle.look_steps.proofs.NoLiveBlock.{denied_ok}
 
 module _ {T : Type 0} (stands : T → LayerState) (o : Opening) (slots id n a : ℕ) (me : Me (Option T) View) (es : List Entry) (h : IsReady n me.0 es)
     (ok : (s : Setting) → IsSettingOf me.0.opening me.0.roll s → MayDeny o.limits (ready_after s me.0 es) n a)

@@ -32,11 +32,11 @@ use Rattle.step_parts.specs.Seen.{IsSeen}
 use Rattle.claim_rule.specs.Places.{size_at, word_at_page, hint_at, tag_at, active_at}
 use Rattle.look_steps.specs.Looks.{IsBitsWord, looked_bits, looked_size, IsHintWord, looked_hint, IsTagWord, looked_tag, asked_active}
 use Rattle.look_steps.specs.Laws.{LookBitsLaw, LookSizeLaw, LookHintLaw, LookTagLaw, AskActiveLaw}
-use Rattle.step_parts.proofs.Front.{IsFront, front_here}
-use Rattle.step_parts.proofs.Blocks.{in_lfh, into_lfh, span_found}
+use Rattle.step_parts.proofs.FrontEnd.{IsFront, front_here}
+use Rattle.step_parts.proofs.BlockWords.{in_lfh, into_lfh, span_found}
 use Rattle.step_parts.proofs.Filters.{in_filter}
 use Rattle.claim_rule.proofs.Ready.{reads}
-use Rattle.step_parts.proofs.Tagged.{tagged}
+use Rattle.step_parts.proofs.Tags.{tagged}
 
 ---- One configuration
 

@@ -41,8 +41,8 @@ use Rattle.claim_rule.proofs.Slots.{SameHomes, homes_kept, SameGuarded, homes_bu
 use Rattle.claim_rule.proofs.Words.{all_same}
 use Rattle.claim_rule.proofs.Quiet.{SameShown, same_shown}
 use Rattle.claim_rule.proofs.Advance.{before, by, leaves, setting_in, role_of, some_setting, holder_behind, setting_back, seen_behind}
-use Rattle.step_parts.specs.Hands.{HasBlock}
-use Rattle.step_parts.proofs.Held.{placed_held}
+use Rattle.step_parts.specs.InHand.{HasBlock}
+use Rattle.step_parts.proofs.BlocksInHand.{placed_held}
 use Rattle.claim_rule.proofs.Gate.{one_by}
 use Rattle.claim_rule.specs.Places.{bitmap_at, bit_of_block}
 use Rattle.step_parts.specs.Seen.{IsSeen}
@@ -50,10 +50,10 @@ use Rattle.step_parts.specs.Claims.{CanClaim, IsUnder}
 use Rattle.span_steps.specs.Installs.{owed_by_span, owed_by_install, making, IsReserving, MayInstall, installed}
 use Rattle.span_steps.specs.Laws.{InstallLaw}
 use Rattle.claim_rule.proofs.Behind.{owed_soundly}
-use Rattle.step_parts.proofs.Front.{AreAlike, IsFront, IsFrontSpan, front_of, front_here, keeps_here, valid_setting, through_same, some_pages}
-use Rattle.step_parts.proofs.Blocks.{into_lfh}
+use Rattle.step_parts.proofs.FrontEnd.{AreAlike, IsFront, IsFrontSpan, front_of, front_here, keeps_here, valid_setting, through_same, some_pages}
+use Rattle.step_parts.proofs.BlockWords.{into_lfh}
 use Rattle.step_parts.proofs.Placed.{claim_same, placed, IsPlaced}
-use Rattle.span_steps.proofs.Made.{made_shown, no_block, in_inserted}
+use Rattle.span_steps.proofs.NewSubsegment.{made_shown, no_block, in_inserted}
 use Rattle.heap_model.specs.declared.What.{What}
 
 ---- A segment is reserved first, or not

@@ -36,9 +36,9 @@ use Rattle.claim_rule.specs.Places.{hint_at}
 use Rattle.span_steps.specs.Retires.{owed_by_retire, MayRetire, retired}
 use Rattle.span_steps.specs.Laws.{RetireLaw}
 use Rattle.claim_rule.proofs.Behind.{owed_soundly}
-use Rattle.step_parts.proofs.Front.{front_here}
+use Rattle.step_parts.proofs.FrontEnd.{front_here}
 use Rattle.claim_rule.proofs.Ready.{stable_here}
-use Rattle.span_steps.proofs.Freed.{freed_shown, found}
+use Rattle.span_steps.proofs.RetiredSubsegment.{freed_shown, found}
 use Rattle.heap_model.specs.declared.What.{What}
 use Rattle.claim_rule.specs.Home.{HasSlot}
 

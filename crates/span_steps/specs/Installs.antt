@@ -16,7 +16,7 @@ use Rattle.claim_rule.specs.declared.views.View.{View}
 use Rattle.claim_rule.specs.Shown.{owed_or, hint_word}
 use Rattle.claim_rule.specs.Entries.{IsSettingOf, entry}
 use Rattle.claim_rule.specs.Plays.{Goes, number_of}
-use Rattle.step_parts.specs.Hands.{HasBlock}
+use Rattle.step_parts.specs.InHand.{HasBlock}
 use Rattle.step_parts.specs.Claims.{MayClaim}
 
 -- the tags of so many pages from one on are owed, and are 0

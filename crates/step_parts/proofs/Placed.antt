@@ -31,8 +31,8 @@ use Rattle.claim_rule.specs.Entries.{entry}
 use Rattle.step_parts.specs.Seen.{IsSeen}
 use Rattle.step_parts.specs.Claims.{CanClaim, MayClaim, owed_by_place, IsUnder}
 use Rattle.claim_rule.proofs.Behind.{stays, IsBehind, IsOwedSoundly, owed_soundly, shown_behind, still_owed, locks_stay}
-use Rattle.step_parts.proofs.Front.{IsFront}
-use Rattle.step_parts.proofs.Blocks.{in_lfh, seat_at, words_kept, set_word, bit_here, word_at, at_below}
+use Rattle.step_parts.proofs.FrontEnd.{IsFront}
+use Rattle.step_parts.proofs.BlockWords.{in_lfh, seat_at, words_kept, set_word, bit_here, word_at, at_below}
 use Rattle.step_parts.proofs.Filters.{into_filter}
 
 ---- Hints

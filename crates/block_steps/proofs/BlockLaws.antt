@@ -33,17 +33,17 @@ use Rattle.claim_rule.proofs.Words.{all_same, all_kept}
 use Rattle.claim_rule.specs.Plays.{number_of}
 use Rattle.claim_rule.proofs.Advance.{before, acts, adds_of, setting_in, setting_back, seen_behind, some_setting}
 use Rattle.claim_rule.proofs.Gate.{one_by, one_follows}
-use Rattle.step_parts.specs.Hands.{IsInHand, HasBlock, IsBlockNumber}
+use Rattle.step_parts.specs.InHand.{IsInHand, HasBlock, IsBlockNumber}
 use Rattle.block_steps.specs.Blocks.{MayClear, MayPublish, MayAsk, HasNone, cleared, published, taken_block, sized}
 use Rattle.block_steps.specs.Laws.{ClearLaw, PublishLaw, TakeBlockLaw, SizeLaw}
-use Rattle.step_parts.proofs.Front.{front_here, keeps_here, usual}
-use Rattle.step_parts.proofs.Held.{found_lfh, taken_held}
-use Rattle.step_parts.proofs.Blocks.{in_lfh}
+use Rattle.step_parts.proofs.FrontEnd.{front_here, keeps_here, usual}
+use Rattle.step_parts.proofs.BlocksInHand.{found_lfh, taken_held}
+use Rattle.step_parts.proofs.BlockWords.{in_lfh}
 use Rattle.step_parts.proofs.Starts.{begins}
-use Rattle.step_parts.proofs.Hands.{with_lfh, lfh_address}
-use Rattle.step_parts.proofs.Lasting.{still_there, seen_still}
+use Rattle.step_parts.proofs.ChangedPlaces.{with_lfh, lfh_address}
+use Rattle.step_parts.proofs.Stays.{still_there, seen_still}
 use Rattle.claim_rule.proofs.Ready.{stable_here}
-use Rattle.block_steps.proofs.Sizes.{no_unspan, drops, gives_size, takes_size}
+use Rattle.block_steps.proofs.InHandWords.{no_unspan, drops, gives_size, takes_size}
 use Rattle.block_steps.proofs.SizeWords.{not_live, live_there, block_there}
 
 in_left : {A : Type 0} (x : A) (xs ys : List A) → IsOneOf x xs → IsOneOf x (xs ++ ys)

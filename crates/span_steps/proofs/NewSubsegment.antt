@@ -24,9 +24,9 @@ use Rattle.claim_rule.specs.Entries.{entry}
 use Rattle.lfh_buckets.proofs.Seats.{block_seat}
 use Rattle.span_steps.specs.Installs.{owed_tags, owed_by_span}
 use Rattle.claim_rule.proofs.Behind.{stays, IsBehind, IsOwedSoundly, shown_behind, locks_stay}
-use Rattle.step_parts.proofs.Bits.{same_word_of}
-use Rattle.step_parts.proofs.Front.{IsFront, IsFrontSpan, some_pages}
-use Rattle.step_parts.proofs.Blocks.{in_lfh, into_lfh, seat_at}
+use Rattle.step_parts.proofs.BitmapWords.{same_word_of}
+use Rattle.step_parts.proofs.FrontEnd.{IsFront, IsFrontSpan, some_pages}
+use Rattle.step_parts.proofs.BlockWords.{in_lfh, into_lfh, seat_at}
 use Rattle.step_parts.proofs.Filters.{into_filter, first_from, in_filter}
 use Rattle.step_parts.proofs.Placed.{hint_head}
 

@@ -28,8 +28,8 @@ use Rattle.claim_rule.proofs.Lists.{after-append, follow_parts, legal_parts, non
 use Rattle.claim_rule.proofs.Prepared.{carried, ready_entry}
 use Rattle.claim_rule.proofs.Quiet.{spans_of_same, leaves_gate}
 use Rattle.claim_rule.proofs.Advance.{before, role_of, some_setting, setting_in}
-use Rattle.step_parts.proofs.Front.{usual, valid_setting}
-use Rattle.step_parts.proofs.Lasting.{seen_same}
+use Rattle.step_parts.proofs.FrontEnd.{usual, valid_setting}
+use Rattle.step_parts.proofs.Stays.{seen_same}
 
 -- entries that neither begin a call nor enter
 abbrev pub is_calm_act : Act → Bool

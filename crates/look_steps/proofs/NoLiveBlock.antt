@@ -25,10 +25,10 @@ use Rattle.heap_soundness.proofs.Spans.{same_span}
 use Rattle.heap_soundness.proofs.Enums.{kind_is}
 use Rattle.claim_rule.specs.Shown.{lfh_spans}
 use Rattle.look_steps.specs.Denials.{IsNowhere, IsNotLarge, IsInNone, IsOfVs, IsOffBlock, MayDeny}
-use Rattle.step_parts.proofs.Front.{front_of, some_pages}
-use Rattle.step_parts.proofs.Blocks.{in_lfh, seat_at}
+use Rattle.step_parts.proofs.FrontEnd.{front_of, some_pages}
+use Rattle.step_parts.proofs.BlockWords.{in_lfh, seat_at}
 use Rattle.step_parts.proofs.Filters.{into_filter, in_filter}
-use Rattle.step_parts.proofs.Hands.{lfh_address}
+use Rattle.step_parts.proofs.ChangedPlaces.{lfh_address}
 
 vs_address : (q : Place) → q.layer ≡ layers.Vs → address q ≡ q.start + 16
 vs_address q e = by q.layer e

@@ -17,7 +17,7 @@ use Rattle.heap_soundness.proofs.Lists.{all_at, all_from, found_in, found_passes
 use Rattle.claim_rule.specs.declared.views.Owed.{Owed}
 use Rattle.claim_rule.specs.Shown.{lfh_spans, flag, bitmap_word, size_word, owed_or, tag_word, hint_word}
 use Rattle.claim_rule.proofs.Behind.{Becomes, stays, IsBehind, IsOwedSoundly, still_owed, locks_stay}
-use Rattle.step_parts.proofs.Bits.{same_word_of}
+use Rattle.step_parts.proofs.BitmapWords.{same_word_of}
 use Rattle.step_parts.specs.Starts.{HaveOwnStarts}
 use Rattle.step_parts.proofs.Starts.{begins, OfLfh, same_removed, same_changed, any_changed}
 

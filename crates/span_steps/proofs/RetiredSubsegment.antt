@@ -25,9 +25,9 @@ use Rattle.claim_rule.specs.Shown.{AreAllShown, lfh_spans, tag_of, bitmap_word, 
 use Rattle.claim_rule.specs.Entries.{entry}
 use Rattle.span_steps.specs.Retires.{is_of_span, owed_by_retire}
 use Rattle.claim_rule.proofs.Behind.{stays, IsBehind, IsOwedSoundly, shown_behind, locks_stay}
-use Rattle.step_parts.proofs.Bits.{same_word_of}
-use Rattle.step_parts.proofs.Front.{IsFront, some_pages}
-use Rattle.step_parts.proofs.Blocks.{in_lfh, one_span, span_found}
+use Rattle.step_parts.proofs.BitmapWords.{same_word_of}
+use Rattle.step_parts.proofs.FrontEnd.{IsFront, some_pages}
+use Rattle.step_parts.proofs.BlockWords.{in_lfh, one_span, span_found}
 use Rattle.step_parts.proofs.Filters.{into_filter, first_from, in_filter}
 
 ---- Owed words, some of which are owed no more

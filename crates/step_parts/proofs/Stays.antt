@@ -25,8 +25,8 @@ use Rattle.claim_rule.specs.Rule.{IsRuled, IsReady, ready_after}
 use Rattle.claim_rule.proofs.Lists.{after-append, follow_parts, legal_parts, none_between}
 use Rattle.claim_rule.proofs.Prepared.{carried}
 use Rattle.claim_rule.proofs.Advance.{before, role_of, some_setting, setting_in}
-use Rattle.step_parts.proofs.Front.{usual, valid_setting, through_same}
-use Rattle.step_parts.proofs.Blocks.{in_lfh, into_lfh}
+use Rattle.step_parts.proofs.FrontEnd.{usual, valid_setting, through_same}
+use Rattle.step_parts.proofs.BlockWords.{in_lfh, into_lfh}
 use Rattle.step_parts.specs.Seen.{IsSeen}
 
 spans_through : (s : Setting) (m : Configuration) (fs : List Entry) (c : ℕ) → IsValidSetting s → Keeps s m → may_all_follow s m fs ≡ true → own c fs ≡ [] → is_entered m.state.gate c ≡ true →

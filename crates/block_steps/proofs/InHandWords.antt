@@ -26,13 +26,13 @@ use Rattle.claim_rule.specs.Shown.{AreAllShown, lfh_spans, bitmap_word, size_wor
 use Rattle.claim_rule.specs.Entries.{entry}
 use Rattle.claim_rule.proofs.Advance.{acts}
 use Rattle.step_parts.specs.Seen.{IsSeen}
-use Rattle.step_parts.specs.Hands.{IsInHand}
+use Rattle.step_parts.specs.InHand.{IsInHand}
 use Rattle.claim_rule.proofs.Behind.{stays, owed_soundly, shown_behind}
-use Rattle.step_parts.proofs.Front.{IsFront}
-use Rattle.step_parts.proofs.Held.{found_lfh}
-use Rattle.step_parts.proofs.Blocks.{in_lfh, seat_at, granule, words_kept, cleared_word, word_at, at_below}
+use Rattle.step_parts.proofs.FrontEnd.{IsFront}
+use Rattle.step_parts.proofs.BlocksInHand.{found_lfh}
+use Rattle.step_parts.proofs.BlockWords.{in_lfh, seat_at, granule, words_kept, cleared_word, word_at, at_below}
 use Rattle.step_parts.proofs.Starts.{begins, any_removed_other, any_removed_same, found_removed_other, found_changed_other, found_changed_same}
-use Rattle.step_parts.proofs.Hands.{with_lfh, places_only, owed_places, lfh_address, removed_is, changed_is, found_is, size_is, bits_on, starts_on}
+use Rattle.step_parts.proofs.ChangedPlaces.{with_lfh, places_only, owed_places, lfh_address, removed_is, changed_is, found_is, size_is, bits_on, starts_on}
 
 ---- A block in hand
 

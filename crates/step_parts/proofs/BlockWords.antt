@@ -19,8 +19,8 @@ use Rattle.claim_rule.specs.Shown.{lfh_spans, bitmap_word}
 use Rattle.lfh_buckets.specs.Blocks.{IsBucket}
 use Rattle.lfh_buckets.proofs.BlockLemmas.{few_blocks}
 use Rattle.lfh_buckets.proofs.Seats.{IsSeat, block_seat, same_number}
-use Rattle.step_parts.proofs.Front.{IsFront, some_pages}
-use Rattle.step_parts.proofs.Bits.{with_bit, cleared, same_word_of, word_with, word_cleared}
+use Rattle.step_parts.proofs.FrontEnd.{IsFront, some_pages}
+use Rattle.step_parts.proofs.BitmapWords.{with_bit, cleared, same_word_of, word_with, word_cleared}
 
 pub in_lfh : (xs : List Span) (x : Span) → IsOneOf x (filter (is_of_kind kinds.Lfh) xs) → IsOneOf x xs × (x.kind ≡ kinds.Lfh)
 in_lfh [] x i = absurd i

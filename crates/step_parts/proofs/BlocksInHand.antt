@@ -13,10 +13,10 @@ use Rattle.heap_model.specs.Legal.{after, with_places, with_status, layer_of}
 use Rattle.heap_soundness.specs.Sound.{IsOneOf}
 use Rattle.search_laws.proofs.Blocks.{whole_granules}
 use Rattle.claim_rule.specs.Entries.{entry}
-use Rattle.step_parts.specs.Hands.{HasBlock}
+use Rattle.step_parts.specs.InHand.{HasBlock}
 use Rattle.step_parts.specs.Starts.{HaveOwnStarts}
 use Rattle.step_parts.proofs.Starts.{begins, OfLfh}
-use Rattle.step_parts.proofs.Hands.{with_lfh, lfh_address, changed_is, found_is}
+use Rattle.step_parts.proofs.ChangedPlaces.{with_lfh, lfh_address, changed_is, found_is}
 
 pub found_lfh : (st : HeapState) (o : Option Place) (p : Place) (f : List Place → List Place) → o ≡ Some p → p.layer ≡ layers.Lfh → with_places st (layer_of o) f ≡ with_lfh st (f st.lfh)
 found_lfh st o p f e l = ap (λ (z : Option Place). with_places st (layer_of z) f) e ∙ ap (λ (k : Layer). with_places st (Some k) f) l
