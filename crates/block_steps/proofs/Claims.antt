@@ -137,6 +137,7 @@ module _ {T : Type 0} (stands : T → LayerState) (o : Opening) (slots id n head
         },
       )
 
+  -- the bit is set, and was 0 or 1
   pub claims : Claiming (bit_or found (bit_of_block i))
   claims = elim (cases_Bool (has_bit found (i % 64))) [ inl e ↦ miss e | inr e ↦ hit e ]
 

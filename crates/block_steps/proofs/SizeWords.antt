@@ -94,6 +94,7 @@ module _ (us : Setting) (m : Configuration) (k : Keeps us m) (f : IsFront us.lim
       by (Live size) h e = omega arith
       by (InHand c) h e = false≢true h
 
+  -- a size word of 0: no live block has the address
   pub not_live : (s : Setting) (n : ℕ) → is_entered m.state.gate n ≡ true → size_word m.state.lfh (spot / 16) ≡ 0 → may s m n (acts.NotLive spot) ≡ true
   not_live s n inside z =
       let a = none_live m.state.lfh (λ q j t live. live_word q j t live z) in
@@ -112,6 +113,7 @@ module _ (us : Setting) (m : Configuration) (k : Keeps us m) (f : IsFront us.lim
     pub starts : place.start ≡ spot
     pub live : place.status ≡ Live (word - 1)
 
+  -- another: a live block of that size begins there
   pub live_there : (word : ℕ) → size_word m.state.lfh (spot / 16) ≡ word → (word ≡ 0 → ⊥) → IsLiveThere word
   live_there word e nz = by (find (begins (16 * (spot / 16))) m.state.lfh) refl e
     where

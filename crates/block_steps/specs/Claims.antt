@@ -28,6 +28,7 @@ module _ {T : Type 0} (es : List Entry) (head b t i : ℕ) (back : Bool) (hint :
     pub slot : m'.1 ≡ m.1
     pub owes : m'.0.owes ≡ m.0.owes
 
+  -- what the bit that was found tells
   pub record claimed : Type 0 where
     pub free : has_bit r (i % 64) ≡ false → HasClaimed
     pub taken : has_bit r (i % 64) ≡ true → HasLost

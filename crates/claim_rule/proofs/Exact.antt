@@ -1,15 +1,15 @@
 -- Where tags and hints are right: a hint of 0, and all words while nobody holds Back.
-use Rattle.std.proofs.Common.{◌≡◌, ◌⊎◌, ℕ, ◌+◌, ◌*◌, true, false, List, [], ◌∷◌, get_or, Option, Some, None, refl, sym, ap, ◌∙◌, subst, inl, inr, ⊎_elim, eqb, eq-eqb}
+use Rattle.std.proofs.Common.{◌≡◌, ℕ, ◌+◌, ◌*◌, true, false, List, [], ◌∷◌, Option, Some, None, refl, sym, ap, ◌∙◌, subst, inl, inr, ⊎_elim, eqb, eq-eqb}
 use Rattle.std.specs.Prelude.{unwrap_or}
 use Rattle.std.specs.List.{list_any}
 use Rattle.std.proofs.lemmas.Bool.{both_ways, or_left}
 use Rattle.heap_model.specs.State.{Span}
-use Rattle.heap_model.specs.CallState.{Configuration}
 use Rattle.heap_model.specs.Search.{spans_of, begins_at, first_of, hint_or}
 use Rattle.claim_rule.specs.declared.views.Owed.{Owed}
-use Rattle.claim_rule.specs.Shown.{owed_or, lfh_spans, tag_word, hint_word, is_head, are_made_by, MayBeOld, HintShown, HintsAreHeads}
+use Rattle.claim_rule.specs.Shown.{owed_or, lfh_spans, tag_word, hint_word, is_head, are_made_by, MayBeOld}
 use Rattle.claim_rule.specs.Laws.{ZeroHintLaw, FreeWordsLaw}
 
+-- a hint of 0
 pub zero_hint : ZeroHintLaw
 zero_hint m owes b t heads none_at_zero k = ⊎_elim
     (λ (z : 0 ≡ hint_word m.state.back.area m.now.span_history b t). inl (by (m.now.span_history.hints b t) refl z))
@@ -26,6 +26,7 @@ zero_hint m owes b t heads none_at_zero k = ⊎_elim
     by None e z = lowest (spans_of m.state.back.area b t) none_at_zero z
     by (Some f) e z = absurd (both_ways (is_head m.state.back.area b t 0) none_at_zero (subst (λ (x : ℕ). is_head m.state.back.area b t x ≡ true) (sym z) (heads b t f e)))
 
+-- all words while Back is free
 pub free_words : FreeWordsLaw
 free_words l made m owes words h free =
     let paid : owes ≡ [] = h.lfh.paid free in

@@ -47,6 +47,7 @@ pub record AreExact (l : Limits) (m : Configuration) (words : List ℕ) : Type 0
   pub tags : (page : ℕ) → page < 256 * l.segments → slice_index words (tag_at page) ≡ tag_word (lfh_spans m.state.back.area) page
   pub hints : (b t : ℕ) → 1 ≤ b → b ≤ 128 → t < 16 → slice_index words (hint_at b t) ≡ hint_word m.state.back.area m.now.span_history b t
 
+-- the law of it
 abbrev pub FreeWordsLaw : Type 0
 FreeWordsLaw = (l : Limits) (made : ℕ) (m : Configuration) (owes : List Owed) (words : List ℕ) → AreAllShown l made m owes words → m.state.gate.locks.back ≡ None → AreExact l m words
 
@@ -61,6 +62,7 @@ module _ {T : Type 0} (stands : T → LayerState) where
     pub words : (l : Limits) (made : ℕ) (owes : List Owed) (words : List ℕ) → AreAllShown l made m owes words → AreAllShown l made (configuration_after s m es) owes words
     pub homes : (o : Opening) (homes : List (mathlib.Core.Option.Option (Option T))) → AreHome stands o m.state homes → AreHome stands o (configuration_after s m es).state homes
 
+  -- what a caller has prepared is carried through whatever others did
   abbrev pub PreparedIsCarried : Type 0
   PreparedIsCarried =
       (s : Setting) (c : ℕ) (m n : Configuration) (es : List Entry) → AgreesFor c m n → m.now.demand ≡ n.now.demand → are_prepared s n c es ≡ true → IsCarriedThrough s c m n es

@@ -191,6 +191,7 @@ module _ (us : Setting) (m k : Configuration) (n a : ℕ) (keep : Keeps us m) (r
     not_large = ⊎_elim (λ (z : IsNotLarge l a). none_live m.state.large (λ q j t. no_large q j t (subst (λ (y : Limits). IsNotLarge y a) (sym limits) z)))
         (λ (z : (holds k.state.gate n whats.Large ≡ true) × (has_live k.state.large a ≡ false)). ap (λ (ps : List Place). has_live ps a) (r.large z.0) ∙ z.1) d.large
 
+    -- no layer has a live block there
     pub denied_ok : (s : Setting) → may s m n (acts.NotLive a) ≡ true
     denied_ok s =
         let inside : is_entered m.state.gate n ≡ true = ap (λ (x : CallerView). x.entered) (caller_view_same n m k r) ∙ d.inside in

@@ -127,6 +127,7 @@ module _ {T : Type 0} (stands : T → LayerState) (o : Opening) (slots id n firs
   back_else s q whats.Gate has ne = absurd has
   back_else s q whats.Lfh has ne = absurd has
 
+  -- the subsegment goes
   pub retires : (w : View) × (a : Act (Option T)) × Valid st.homes me.1 a × IsRuled stands o (stepped st (hint_at b t) v id me.1 w a)
       × retired es first pages b t (step slots (hint_at b t) v 0 none) me v (w, carried_after me.1 a)
   retires =
