@@ -1,5 +1,5 @@
 -- Where the words of the table lie, for the limits l.
-use Rattle.std.specs.Prelude.{◌≡◌, ℕ, ◌+◌, ◌*◌, List, [], ◌∷◌}
+use Rattle.std.specs.Prelude.{◌≡◌, ℕ, ◌+◌, ◌*◌, ◌/◌, ◌%◌, ◌^◌, List, [], ◌∷◌}
 use Rattle.heap_model.specs.declared.Limits.{Limits}
 use Rattle.heap_model.specs.declared.What.{What}
 use Rattle.heap_model.specs.declared.What.TheVariants as whats
@@ -9,12 +9,15 @@ pub record Region : Type 0 where
   pub from : ℕ
   pub words : ℕ
 
+-- the word of the number of callers that were made
 abbrev pub made_word : ℕ
 made_word = 0
 
+-- the word of the gate
 abbrev pub gate_at : ℕ
 gate_at = 1
 
+-- the word of a lock
 abbrev pub lock_at : What → ℕ
 lock_at whats.Gate = gate_at
 lock_at whats.Lfh = 2
@@ -22,6 +25,12 @@ lock_at whats.Vs = 3
 lock_at whats.Back = 4
 lock_at whats.Large = 5
 
+-- the lock of a layer has a word of its own
+abbrev pub IsLayerLock : What → Type 0
+IsLayerLock whats.Gate = ⊥
+IsLayerLock _ = Unit {0}
+
+-- the regions of the words, in their order
 abbrev pub made_region : Region
 made_region = record { from = 0; words = 1 }
 
@@ -55,9 +64,11 @@ sizes_region l = record { from = 2182 + 1280 * l.segments; words = 65536 * l.seg
 abbrev pub data_region : Limits → Region
 data_region l = record { from = 2182 + 66816 * l.segments; words = 131072 * l.segments + 512 * l.large_pages }
 
+-- how many words there are
 abbrev pub word_count : Limits → ℕ
 word_count l = 2182 + 197888 * l.segments + 512 * l.large_pages
 
+-- all regions
 abbrev pub regions : Limits → List Region
 regions l =
     made_region ∷ gate_region ∷ locks_region ∷ active_region ∷ hints_region ∷ tags_region l ∷ bitmaps_region l ∷ sizes_region l ∷ data_region l ∷ []
@@ -76,3 +87,45 @@ back_slot = 1
 
 abbrev pub large_slot : ℕ
 large_slot = 2
+
+-- how many slots there are
+abbrev pub slot_count : ℕ
+slot_count = 3
+
+---- The word of ..
+
+-- whether bucket b + 1 is active
+abbrev pub active_at : ℕ → ℕ
+active_at b = 6 + b
+
+-- the hint of a bucket and a slot
+abbrev pub hint_at : ℕ → ℕ → ℕ
+hint_at b t = 118 + 16 * b + t
+
+-- the tag of a page
+abbrev pub tag_at : ℕ → ℕ
+tag_at page = 2182 + page
+
+-- word w of the bitmap of the subsegment that begins at a page
+abbrev pub word_at_page : Limits → ℕ → ℕ → ℕ
+word_at_page l head w = 2182 + 256 * l.segments + (4 * head + w)
+
+-- the bitmap in which block i of that subsegment has its bit, and the bit
+abbrev pub bitmap_at : Limits → ℕ → ℕ → ℕ
+bitmap_at l head i = 2182 + 256 * l.segments + (4 * head + i / 64)
+
+-- the bit of block i in its word of the bitmap
+abbrev pub bit_of_block : ℕ → ℕ
+bit_of_block i = 1 * 2 ^ (i % 64) % 2 ^ 64
+
+-- the size of the block at an address
+abbrev pub size_at : Limits → ℕ → ℕ
+size_at l addr = 2182 + 1280 * l.segments + addr / 16
+
+-- a data word, and how many there are
+abbrev pub data_at : Limits → ℕ → ℕ
+data_at l w = 2182 + 66816 * l.segments + w
+
+-- how many data words there are
+abbrev pub data_count : Limits → ℕ
+data_count l = 131072 * l.segments + 512 * l.large_pages

@@ -1,0 +1,10 @@
+pub mod Filters
+pub mod FrontEnd
+pub mod Starts
+pub mod BitmapWords
+pub mod BlockWords
+pub mod Stays
+pub mod ChangedPlaces
+pub mod BlocksInHand
+pub mod Placed
+pub mod Tags
