@@ -1,19 +1,26 @@
 //! Each step of a caller on the table, with the entries that it carries.
-ghost use Rattle.std.specs.Prelude.{◌≡◌, ℕ, ◌+◌, ◌*◌, ◌<◌, []};
+ghost use Rattle.std.specs.Prelude.{◌≡◌, ℕ, ◌+◌, ◌*◌, ◌<◌, ◌∷◌, [], List, Some, None, Option};
 ghost use mathlib.Core.Option.{none};
-ghost use Rattle.atomic_table.specs.Table.{step};
+ghost use Rattle.atomic_table.specs.Table.{step, Me};
 ghost use Rattle.heap_model.specs.State.{Setting};
+ghost use Rattle.heap_model.specs.declared.Act.TheVariants as acts;
+ghost use Rattle.heap_model.specs.History.{configuration_of};
+ghost use Rattle.claim_rule.specs.declared.views.View.{View as AView};
 ghost use Rattle.claim_rule.specs.Entries.{IsSettingOf};
 ghost use Rattle.claim_rule.specs.Rule.{IsReady, ready_after};
 ghost use Rattle.claim_rule.specs.Steps.{MayPass, MayGoOut, MayTryLock, MayGiveUp};
-ghost use Rattle.claim_rule.specs.Plays.{looked, entered, left, locked, unlocked, number_of};
+ghost use Rattle.claim_rule.specs.Plays.{looked, entered, left, locked, unlocked, number_of, Adds};
+ghost use Rattle.claim_steps.specs.Locks.{HasSlot, slot_of, Tells, IsPaid, MayTake, MayGiveBack, took};
+ghost use Rattle.claim_rule.specs.Places.{lock_at};
 
 use arrayvec::ArrayVec;
 use atomic_table::{Seat, Shared};
 use claim_rule::{
-    Carried, Enters, GATE, HeapRule, Leaves, Locks, Looks, MADE, Opening, Stands, Unlocks, View,
+    Carried, Enters, GATE, HeapRule, Leaves, Locks, Looks, MADE, Unlocks, View,
 };
-use heap_model::{Act, Entry};
+use claim_steps::Guards;
+use claim_steps::steps::{give_as, take_as};
+use heap_model::{Act, Entry, Opening, Stands, What};
 use std::marker::Model;
 
 pub(crate) type Top<T> = Shared<Option<T>, View, Opening, HeapRule<T>>;
@@ -55,7 +62,7 @@ pub(crate) fn look_as<T: Stands, E: Carried>(
     place: &mut Place<T>,
     _prepared: &Prepared,
 )
-    requires table { (place.old.table_id ≡ top.now.table_id) × (1 < top.now.table_id.words) }
+    requires table { (place.old.table_id ≡ top.now.table_id) × (5 < top.now.table_id.words) }
     requires ready { IsReady (number_of place.old.me.0.role) place.old.me.0 E.entries }
     ensures table { place.new.table_id ≡ place.old.table_id }
     ensures told { (n : ℕ) × looked E.entries (step top.now.table_id.slots 0 0 0 none) place.old.me n place.new.me }
@@ -68,7 +75,7 @@ pub(crate) fn enter_as<T: Stands, E: Carried>(
     place: &mut Place<T>,
     _prepared: &Prepared,
 ) -> u64
-    requires table { (place.old.table_id ≡ top.now.table_id) × (1 < top.now.table_id.words) }
+    requires table { (place.old.table_id ≡ top.now.table_id) × (5 < top.now.table_id.words) }
     requires ready { IsReady (number_of place.old.me.0.role) place.old.me.0 E.entries }
     requires may { (s : Setting) → IsSettingOf place.old.me.0.opening place.old.me.0.roll s → MayPass (ready_after s place.old.me.0 E.entries) (number_of place.old.me.0.role) }
     ensures table { place.new.table_id ≡ place.old.table_id }
@@ -82,7 +89,7 @@ pub(crate) fn leave_as<T: Stands, E: Carried>(
     place: &mut Place<T>,
     _prepared: &Prepared,
 )
-    requires table { (place.old.table_id ≡ top.now.table_id) × (1 < top.now.table_id.words) }
+    requires table { (place.old.table_id ≡ top.now.table_id) × (5 < top.now.table_id.words) }
     requires ready { IsReady (number_of place.old.me.0.role) place.old.me.0 E.entries }
     requires may { (s : Setting) → IsSettingOf place.old.me.0.opening place.old.me.0.roll s → MayGoOut (ready_after s place.old.me.0 E.entries) (number_of place.old.me.0.role) }
     ensures table { place.new.table_id ≡ place.old.table_id }
@@ -97,7 +104,7 @@ pub(crate) fn lock_as<T: Stands, E: Carried>(
     _prepared: &Prepared,
     tag: u64,
 ) -> u64
-    requires table { (place.old.table_id ≡ top.now.table_id) × (1 < top.now.table_id.words) }
+    requires table { (place.old.table_id ≡ top.now.table_id) × (5 < top.now.table_id.words) }
     requires tag { tag ≡ 65536 * (number_of place.old.me.0.role + 1) }
     requires ready { IsReady (number_of place.old.me.0.role) place.old.me.0 E.entries }
     requires may { (s : Setting) → IsSettingOf place.old.me.0.opening place.old.me.0.roll s → MayTryLock (ready_after s place.old.me.0 E.entries) (number_of place.old.me.0.role) }
@@ -113,7 +120,7 @@ pub(crate) fn unlock_as<T: Stands, E: Carried>(
     _prepared: &Prepared,
     tag: u64,
 )
-    requires table { (place.old.table_id ≡ top.now.table_id) × (1 < top.now.table_id.words) }
+    requires table { (place.old.table_id ≡ top.now.table_id) × (5 < top.now.table_id.words) }
     requires tag { tag ≡ 65536 * (number_of place.old.me.0.role + 1) }
     requires ready { IsReady (number_of place.old.me.0.role) place.old.me.0 E.entries }
     requires may { (s : Setting) → IsSettingOf place.old.me.0.opening place.old.me.0.roll s → MayGiveUp (ready_after s place.old.me.0 E.entries) (number_of place.old.me.0.role) }
@@ -121,4 +128,49 @@ pub(crate) fn unlock_as<T: Stands, E: Carried>(
     ensures told { (n : ℕ) × unlocked E.entries (step top.now.table_id.slots 1 tag 0 none) place.old.me n place.new.me }
 {
     top.fetch_sub::<Unlocks<E>>(place, GATE, tag);
+}
+
+// The lock is that of the caller's argument, for the proof alone.
+pub(crate) fn take_by<T: Stands, G: Guards, E: Carried>(
+    top: &Top<T>,
+    place: &mut Place<T>,
+    _prepared: &Prepared,
+    _what: What,
+    word: usize,
+    slot: usize,
+    tag: u64,
+) -> (u64, Option<T>)
+    requires table { (place.old.table_id ≡ top.now.table_id) × (5 < top.now.table_id.words) }
+    requires lock { HasSlot G.what × (word ≡ lock_at G.what) × (slot ≡ slot_of G.what) }
+    requires tag { tag ≡ number_of place.old.me.0.role + 1 }
+    requires ready { IsReady (number_of place.old.me.0.role) place.old.me.0 E.entries }
+    requires may { (s : Setting) → IsSettingOf place.old.me.0.opening place.old.me.0.roll s → MayTake (ready_after s place.old.me.0 E.entries) (number_of place.old.me.0.role) G.what }
+    ensures table { place.new.table_id ≡ place.old.table_id }
+    ensures told { (at : Me (Option T) AView) × took T.stands G.what E.entries (step top.now.table_id.slots word 0 tag none) place.old.me result.0 at × (place.new.me.0 ≡ at.0) }
+    ensures free { result.0 ≡ 0 → (t : T) × (result.1 ≡ Some t) × (place.new.me.1 ≡ (slot_of G.what, None) ∷ place.old.me.1) × ((s : Setting) → IsSettingOf place.new.me.0.opening place.new.me.0.roll s → Tells G.what place.new.me.0.opening (configuration_of s place.new.me.0.seen).state (T.stands t)) }
+    ensures busy { (result.0 ≡ 0 → ⊥) → (result.1 ≡ None) × (place.new.me.1 ≡ place.old.me.1) }
+{
+    take_as::<T, G, E>(top, place, word, slot, tag)
+}
+
+pub(crate) fn give_by<T: Stands + Drop, G: Guards, E: Carried>(
+    top: &Top<T>,
+    place: &mut Place<T>,
+    _prepared: &Prepared,
+    _what: What,
+    word: usize,
+    slot: usize,
+    state: T,
+)
+    requires table { (place.old.table_id ≡ top.now.table_id) × (5 < top.now.table_id.words) }
+    requires lock { HasSlot G.what × (word ≡ lock_at G.what) × (slot ≡ slot_of G.what) }
+    requires out { (more : List (ℕ × Option T)) × (place.old.me.1 ≡ (slot_of G.what, None) ∷ more) }
+    requires paid { IsPaid G.what place.old.me.0.owes }
+    requires ready { IsReady (number_of place.old.me.0.role) place.old.me.0 E.entries }
+    requires may { (s : Setting) → IsSettingOf place.old.me.0.opening place.old.me.0.roll s → MayGiveBack (ready_after s place.old.me.0 E.entries) (number_of place.old.me.0.role) G.what × Tells G.what place.old.me.0.opening (ready_after s place.old.me.0 E.entries).state (T.stands state) }
+    ensures table { place.new.table_id ≡ place.old.table_id }
+    ensures told { Adds E.entries (acts.GiveLock G.what) place.old.me place.new.me × (place.new.me.0.owes ≡ place.old.me.0.owes) }
+    ensures slot { (more : List (ℕ × Option T)) → place.old.me.1 ≡ (slot_of G.what, None) ∷ more → place.new.me.1 ≡ more }
+{
+    give_as::<T, G, E>(top, place, word, slot, state);
 }
