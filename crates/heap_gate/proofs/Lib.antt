@@ -5,3 +5,6 @@ pub mod Turning
 pub mod Acting
 pub mod Begun
 pub mod Taking
+pub mod SearchCount
+pub mod Meeting
+pub mod Ending
