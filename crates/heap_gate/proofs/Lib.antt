@@ -8,3 +8,4 @@ pub mod Taking
 pub mod SearchCount
 pub mod Meeting
 pub mod Ending
+pub mod Counting
