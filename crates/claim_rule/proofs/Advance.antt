@@ -20,13 +20,14 @@ use Rattle.claim_rule.specs.declared.views.View.{View}
 use Rattle.claim_rule.specs.Shown.{holder_from, back_holder, AreAllShown}
 use Rattle.heap_model.specs.Layers.{LayerState}
 use Rattle.claim_rule.specs.Home.{AreHome}
-use Rattle.claim_rule.specs.Entries.{IsSettingOf, IsLegalWith, is_by, is_named, entry}
+use Rattle.claim_rule.specs.Entries.{IsSettingOf, IsLegalWith, is_by, entry}
 use Rattle.claim_rule.specs.Rule.{KnowsAs, IsRuled, IsReady, view_of}
 use Rattle.claim_rule.specs.Plays.{Goes, Adds, number_of}
 use Rattle.claim_rule.specs.Laws.{ActsLaw, IsOwing}
 use Rattle.claim_rule.proofs.Lists.{after-append, follow_join, follow_parts, legal_parts, legal_from, none_between, by-append, named-append, named_by, prefix_self, prefix_more, setting_less}
 use Rattle.claim_rule.proofs.Counts.{IsCounted, counted_after, counted_first, counted_few, owner_few}
-use Rattle.claim_rule.proofs.Prepared.{IsCarried, carried, prepared_by, homes_kept}
+use Rattle.claim_rule.proofs.Prepared.{IsCarried, carried, prepared_by}
+use Rattle.claim_rule.proofs.Slots.{homes_kept}
 use Rattle.claim_rule.proofs.Words.{all_same}
 use Rattle.claim_rule.proofs.Holders.{holder-append}
 use Rattle.claim_rule.proofs.Known.{known_set}

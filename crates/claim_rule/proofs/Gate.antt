@@ -24,10 +24,11 @@ use Rattle.claim_rule.specs.Rule.{IsRuled, IsReady, ready_after}
 use Rattle.claim_rule.specs.Steps.{MayPass, MayGoOut}
 use Rattle.claim_rule.specs.Plays.{Adds, number_of, gate_act, looked, entered, left}
 use Rattle.claim_rule.proofs.Counts.{IsCounted, length-without}
-use Rattle.claim_rule.proofs.Prepared.{SameHomes, homes_kept}
+use Rattle.claim_rule.proofs.Slots.{homes_still, SameHomes, homes_kept}
 use Rattle.claim_rule.proofs.Quiet.{SameShown}
-use Rattle.claim_rule.proofs.Words.{all_gate, all_kept}
-use Rattle.claim_rule.proofs.Advance.{before, acts, adds_of, goes_of, role_of}
+use Rattle.claim_rule.proofs.Behind.{all_gate}
+use Rattle.claim_rule.proofs.Words.{all_kept}
+use Rattle.claim_rule.proofs.Advance.{before, acts, adds_of, goes_of}
 
 pub one_by : (n : ℕ) (d : Deed) → is_by n (entry n d ∷ []) ≡ true
 one_by n d = ap (λ (b : Bool). b && true) (eq-eqb n n refl)
@@ -124,7 +125,7 @@ module _ (s : Setting) (m : Configuration) (n x : ℕ) (h : MayPass m n) (is : x
     locks = refl;
     owner = refl;
     demand = refl;
-    homes = record { locks = refl; vs = λ _. refl; spans = λ _. refl; back = λ _. refl; large = λ _. refl };
+    homes = homes_still _ _ refl refl;
   }
   passed false = record {
     word = counted (for_some (m.now.calls n).call is_lock_or_compact) (for_some_not (m.now.calls n).call is_lock_or_compact h.call);
@@ -132,7 +133,7 @@ module _ (s : Setting) (m : Configuration) (n x : ℕ) (h : MayPass m n) (is : x
     locks = refl;
     owner = refl;
     demand = refl;
-    homes = record { locks = refl; vs = λ _. refl; spans = λ _. refl; back = λ _. refl; large = λ _. refl };
+    homes = homes_still _ _ refl refl;
   }
     where
       counted : (b : Bool) → b ≡ false → x + 1 ≡ length (cond b m.state.gate.counted (n ∷ m.state.gate.counted)) + 65536 * caller_word m.state.gate.owner
@@ -217,6 +218,6 @@ module _ {T : Type 0} (stands : T → LayerState) (o : Opening) where
         refl,
         all_gate o.limits r.lead.counted (after s m (entry n acts.Leave)) m _ st.words ((x + 18446744073709551615) % 18446744073709551616)
             (record { lfh = refl; words = refl; active = refl; spans = refl; hints = λ k b t. refl; makers = λ f k. refl }) refl y b.words,
-        homes_kept stands o (after s m (entry n acts.Leave)).state m.state st.homes (record { locks = refl; vs = λ _. refl; spans = λ _. refl; back = λ _. refl; large = λ _. refl }) b.home,
+        homes_kept stands o (after s m (entry n acts.Leave)).state m.state st.homes (homes_still _ _ refl refl) b.home,
       )) in
       (a.0, keeps, tt, a.1, (adds_of me (a.0, me.1) n es acts.Leave h.role a.2, refl, a.3))

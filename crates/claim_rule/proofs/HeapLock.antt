@@ -25,8 +25,9 @@ use Rattle.claim_rule.specs.Entries.{IsSettingOf, entry}
 use Rattle.claim_rule.specs.Rule.{IsRuled, IsReady, ready_after}
 use Rattle.claim_rule.specs.Steps.{MayTryLock, MayGiveUp}
 use Rattle.claim_rule.specs.Plays.{Adds, locked, unlocked}
-use Rattle.claim_rule.proofs.Prepared.{homes_kept}
-use Rattle.claim_rule.proofs.Words.{all_gate, all_kept, all_same}
+use Rattle.claim_rule.proofs.Slots.{homes_still, homes_kept}
+use Rattle.claim_rule.proofs.Behind.{all_gate}
+use Rattle.claim_rule.proofs.Words.{all_kept, all_same}
 use Rattle.claim_rule.proofs.Advance.{before, acts, adds_of, setting_in, role_of}
 use Rattle.claim_rule.proofs.Gate.{one_by, one_follows, for_some_is}
 
@@ -86,7 +87,7 @@ module _ {T : Type 0} (stands : T → LayerState) (o : Opening) where
         refl,
         all_gate o.limits r.lead.counted (after s m (entry n acts.Lock)) m _ st.words (65536 * (n + 1))
             (record { lfh = refl; words = refl; active = refl; spans = refl; hints = λ k b t. refl; makers = λ f k. refl }) refl y b.words,
-        homes_kept stands o (after s m (entry n acts.Lock)).state m.state st.homes (record { locks = refl; vs = λ _. refl; spans = λ _. refl; back = λ _. refl; large = λ _. refl }) b.home,
+        homes_kept stands o (after s m (entry n acts.Lock)).state m.state st.homes (homes_still _ _ refl refl) b.home,
       )) in
       let W : View = a.0 in
       (W, keeps, tt, a.1, (subst (λ (d : Deed). Adds es d me (W, me.1)) (sym (ap (λ (b : Bool). cond b acts.Lock (acts.Blocked whats.Gate x)) (eq-eqb x 0 z))) (adds_of me (W, me.1) n es acts.Lock h.role a.2), refl, a.3))
@@ -109,7 +110,7 @@ module _ {T : Type 0} (stands : T → LayerState) (o : Opening) where
         all_kept o.limits r.lead.counted (after s m (entry n (acts.Blocked whats.Gate x))) _ st.words 1
             (all_same o.limits r.lead.counted (after s m (entry n (acts.Blocked whats.Gate x))) m _ st.words
             (record { lfh = refl; words = refl; active = refl; spans = refl; hints = λ k b t. refl; makers = λ f k. refl }) same b.words),
-        homes_kept stands o (after s m (entry n (acts.Blocked whats.Gate x))).state m.state st.homes (record { locks = ap (λ (f : GateAndLocks). f.locks) same; vs = λ _. refl; spans = λ _. refl; back = λ _. refl; large = λ _. refl }) b.home,
+        homes_kept stands o (after s m (entry n (acts.Blocked whats.Gate x))).state m.state st.homes (homes_still _ _ (ap (λ (f : GateAndLocks). f.locks) same) refl) b.home,
       )) in
       let W : View = a.0 in
       (W, keeps, tt, a.1, (subst (λ (d : Deed). Adds es d me (W, me.1)) (sym (ap (λ (b : Bool). cond b acts.Lock (acts.Blocked whats.Gate x)) (ne_eqb x 0 z))) (adds_of me (W, me.1) n es (acts.Blocked whats.Gate x) h.role a.2), refl, a.3))
@@ -148,6 +149,6 @@ module _ {T : Type 0} (stands : T → LayerState) (o : Opening) where
         all_gate o.limits r.lead.counted (after s m (entry n acts.Unlock)) m _ st.words ((x + (18446744073709551616 - 65536 * (n + 1))) % 18446744073709551616)
             (record { lfh = refl; words = refl; active = refl; spans = refl; hints = λ k b t. refl; makers = λ f k. refl }) refl
             y b.words,
-        homes_kept stands o (after s m (entry n acts.Unlock)).state m.state st.homes (record { locks = refl; vs = λ _. refl; spans = λ _. refl; back = λ _. refl; large = λ _. refl }) b.home,
+        homes_kept stands o (after s m (entry n acts.Unlock)).state m.state st.homes (homes_still _ _ refl refl) b.home,
       )) in
       (a.0, keeps, tt, a.1, (adds_of me (a.0, me.1) n es acts.Unlock h.role a.2, refl, a.3))

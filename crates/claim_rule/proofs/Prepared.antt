@@ -5,9 +5,8 @@ use Rattle.std.proofs.lemmas.Bool.{and_parts, and_from, eqb-true}
 use Rattle.heap_model.specs.declared.Act.{Act}
 use Rattle.heap_model.specs.declared.Act.TheVariants as acts
 use Rattle.heap_model.specs.declared.Entry.{Entry}
-use Rattle.heap_model.specs.State.{State, GateAndLocks, Locks, BackPart, Setting, Place, by_address, is_caller}
+use Rattle.heap_model.specs.State.{GateAndLocks, BackPart, Setting, Place, holder_of, is_caller}
 use Rattle.heap_model.specs.CallState.{Configuration}
-use Rattle.heap_model.specs.Ranges.{vs_spans}
 use Rattle.heap_model.specs.Search.{begins_at}
 use Rattle.heap_model.specs.Legal.{may, may_follow, after}
 use Rattle.heap_model.specs.History.{configuration_after, may_all_follow}
@@ -16,52 +15,14 @@ use Rattle.heap_model.proofs.GateSound.{row_of}
 use Rattle.heap_model.proofs.Agreement.{agrees_prepared}
 use Rattle.heap_model.proofs.Others.{unspan_locks}
 use Rattle.heap_model.proofs.Stable.{same_hand_at, locked_place_at}
-use Rattle.heap_model.specs.declared.Opening.{Opening}
 use Rattle.claim_rule.specs.Shown.{holder_from, held_after, lfh_spans}
-use Rattle.heap_model.specs.Layers.{LayerState, StandsForVs, StandsForBack, StandsForLarge}
-use Rattle.claim_rule.specs.Home.{AreHome}
+use Rattle.heap_model.specs.declared.What.{What}
+use Rattle.heap_model.specs.declared.What.TheVariants as whats
+use Rattle.claim_rule.specs.Home.{HasSlot}
+use Rattle.claim_rule.proofs.Slots.{SameGuarded, SameHomes, homes_still, same_homes_trans}
 use Rattle.claim_rule.specs.Entries.{entry, is_by, is_of_lfh, leaves_words, may_prepare, are_prepared}
 use Rattle.claim_rule.proofs.Quiet.{SameShown, same_shown, same_shown_trans, leaves, leaves_gate, leaves_holder}
 use Rattle.claim_rule.proofs.Homes.{vs_kept, back_kept, large_kept, spans_kept}
-
----- What the slots at home stand for
-
--- what a lock guards that is free is the same in both
-pub record SameHomes (m n : State) : Type 0 where
-  pub locks : m.gate.locks ≡ n.gate.locks
-  pub vs : n.gate.locks.vs ≡ None → m.vs ≡ n.vs
-  pub spans : n.gate.locks.vs ≡ None → vs_spans m.back.area ≡ vs_spans n.back.area
-  pub back : n.gate.locks.back ≡ None → m.back ≡ n.back
-  pub large : n.gate.locks.large ≡ None → m.large ≡ n.large
-
-pub same_homes : (m : State) → SameHomes m m
-same_homes m = record { locks = refl; vs = λ _. refl; spans = λ _. refl; back = λ _. refl; large = λ _. refl }
-
-same_homes_trans : (m n o : State) → SameHomes m n → SameHomes n o → SameHomes m o
-same_homes_trans m n o p q = record {
-  locks = p.locks ∙ q.locks;
-  vs = λ h. p.vs (ap (λ (k : Locks). k.vs) q.locks ∙ h) ∙ q.vs h;
-  spans = λ h. p.spans (ap (λ (k : Locks). k.vs) q.locks ∙ h) ∙ q.spans h;
-  back = λ h. p.back (ap (λ (k : Locks). k.back) q.locks ∙ h) ∙ q.back h;
-  large = λ h. p.large (ap (λ (k : Locks). k.large) q.locks ∙ h) ∙ q.large h;
-}
-
-pub homes_kept : {T : Type 0} (stands : T → LayerState) (o : Opening) (m n : State) (homes : List (mathlib.Core.Option.Option (Option T))) → SameHomes m n → AreHome stands o n homes → AreHome stands o m homes
-homes_kept stands o m n homes r h = record {
-  deep = h.deep;
-  vs = λ z.
-      let z' = sym (ap (λ (k : Locks). k.vs) r.locks) ∙ z in
-      let t = h.vs z' in
-      (t.0, t.1, record { lock = t.2.lock; limits = t.2.limits; key = t.2.key; part = t.2.part ∙ sym (ap Rattle.heap_model.specs.Layers.sorted_vs (r.vs z')); spans = t.2.spans ∙ sym (r.spans z') });
-  back = λ z.
-      let z' = sym (ap (λ (k : Locks). k.back) r.locks) ∙ z in
-      let t = h.back z' in
-      (t.0, t.1, record { lock = t.2.lock; limits = t.2.limits; part = t.2.part ∙ sym (ap Rattle.heap_model.specs.Layers.sorted_back (r.back z')) });
-  large = λ z.
-      let z' = sym (ap (λ (k : Locks). k.large) r.locks) ∙ z in
-      let t = h.large z' in
-      (t.0, t.1, record { lock = t.2.lock; limits = t.2.limits; part = t.2.part ∙ sym (ap by_address (r.large z')) });
-}
 
 ---- Prepared entries
 
@@ -99,13 +60,14 @@ module _ (s : Setting) (c : ℕ) where
 
   -- one act leaves what the slots stand for
   homes_act : (m : Configuration) (act : Act) → leaves_words m c act ≡ true → may s m c act ≡ true → SameHomes (after s m (entry c act)).state m.state
-  homes_act m act q h = record {
-    locks = ap (λ (f : GateAndLocks). f.locks) (leaves_gate s m c act q);
-    vs = λ z. vs_kept s m c act q h (ap (is_caller c) z);
-    spans = λ z. spans_kept s m c act q h (ap (is_caller c) z);
-    back = λ z. back_kept s m c act q h (ap (is_caller c) z);
-    large = λ z. large_kept s m c act q h (ap (is_caller c) z);
-  }
+  homes_act m act q h = record { locks = ap (λ (f : GateAndLocks). f.locks) (leaves_gate s m c act q); guarded = kept }
+    where
+      kept : (what : What) → HasSlot what → holder_of m.state.gate.locks what ≡ None → SameGuarded what (after s m (entry c act)).state m.state
+      kept whats.Vs has z = (vs_kept s m c act q h (ap (is_caller c) z), spans_kept s m c act q h (ap (is_caller c) z))
+      kept whats.Back has z = back_kept s m c act q h (ap (is_caller c) z)
+      kept whats.Large has z = large_kept s m c act q h (ap (is_caller c) z)
+      kept whats.Gate has z = tt
+      kept whats.Lfh has z = tt
 
   -- what is so behind prepared entries, in m as in n
   pub record IsCarried (m n : Configuration) (es : List Entry) : Type 0 where
@@ -118,7 +80,7 @@ module _ (s : Setting) (c : ℕ) where
     pub holder : (h : Option ℕ) → holder_from h es ≡ h
 
   pub carried : (m n : Configuration) (es : List Entry) → AgreesFor c m n → m.now.demand ≡ n.now.demand → are_prepared s n c es ≡ true → IsCarried m n es
-  carried m n [] r d h = record { follows = refl; agrees = r; demand = d; shown = same_shown m; gate = refl; homes = same_homes m.state; holder = λ h. refl }
+  carried m n [] r d h = record { follows = refl; agrees = r; demand = d; shown = same_shown m; gate = refl; homes = homes_still m.state m.state refl refl; holder = λ h. refl }
   carried m n (e ∷ es) r d h =
       let p = ready_entry n e (are_prepared s (after s n e) c es) h in
       let is : e ≡ entry c e.act = ap (λ (x : ℕ). entry x e.act) p.0.by in

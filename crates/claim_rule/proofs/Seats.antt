@@ -11,7 +11,7 @@ use Rattle.atomic_table.proofs.Lists.{set_again, set_else}
 use Rattle.heap_model.specs.declared.Entry.{Entry}
 use Rattle.heap_model.specs.declared.Limits.{Limits}
 use Rattle.heap_model.specs.Limits.{AreValid}
-use Rattle.heap_model.specs.State.{is_among, opening}
+use Rattle.heap_model.specs.State.{is_among, opening, holder_of, caller_word}
 use Rattle.heap_model.specs.History.{configuration_of, first_configuration, is_legal, own}
 use Rattle.claim_rule.specs.declared.views.Assignment.{Assignment}
 use Rattle.heap_model.specs.declared.Opening.{Opening}
@@ -19,16 +19,19 @@ use Rattle.claim_rule.specs.declared.views.Lead.{Lead}
 use Rattle.claim_rule.specs.declared.views.Role.{Role}
 use Rattle.claim_rule.specs.declared.views.Role.TheVariants.{Caller, Root}
 use Rattle.claim_rule.specs.declared.views.View.{View}
-use Rattle.claim_rule.specs.Places.{word_count}
-use Rattle.claim_rule.specs.Shown.{AreAllShown}
+use Rattle.heap_model.specs.declared.What.{What}
+use Rattle.heap_model.specs.declared.What.TheVariants as whats
+use Rattle.claim_rule.specs.Places.{word_count, lock_at}
+use Rattle.claim_rule.specs.Home.{HasSlot, IsFull}
+use Rattle.claim_rule.specs.Shown.{AreAllShown, back_holder}
 use Rattle.heap_model.specs.Layers.{LayerState, StandsForVs, StandsForBack, StandsForLarge}
-use Rattle.claim_rule.specs.Entries.{IsSettingOf, IsLegalWith, is_named, have_slots}
+use Rattle.claim_rule.specs.Entries.{IsLegalWith, is_named, have_slots}
 use Rattle.claim_rule.specs.Rule.{IsSeen, are_distinct, KnowsAs, Knows, IsRuled, longer, zero_words, first_lead, first_view, spent_view, relay, next_lead, dealing, dealing_role, dealt, dealt_role, roll_of, told, taken_in, joined_role, view_of}
 use Rattle.claim_rule.specs.Plays.{heard_all, agreed, numbered, number_of}
 use Rattle.claim_rule.proofs.Lists.{prefix_self, prefix_nil, prefix_more, longer_begins, longer_one, own_between, none_between, own_unnamed, named_more, named_rest, none_at_all, setting_less}
-use Rattle.claim_rule.specs.Shown.{back_holder}
 use Rattle.claim_rule.proofs.Holders.{named_holder}
-use Rattle.claim_rule.proofs.Words.{all_made, all_kept}
+use Rattle.claim_rule.proofs.Behind.{all_made}
+use Rattle.claim_rule.proofs.Words.{all_kept}
 use Rattle.claim_rule.proofs.Known.{swapped, grown, seen_none, seen_still, knows_still, nobody}
 
 abbrev quiet_role : Role → Role
@@ -360,13 +363,21 @@ module _ {T : Type 0} (stands : T → LayerState) (o : Opening) where
       beyond (suc n) zero le = absurd (omega arith)
       beyond (suc n) (suc i) le = beyond n i (omega arith)
 
+  -- nobody holds a lock
+  unheld : (what : What) → 0 ≡ caller_word (holder_of first_configuration.state.gate.locks what)
+  unheld whats.Gate = refl
+  unheld whats.Lfh = refl
+  unheld whats.Vs = refl
+  unheld whats.Back = refl
+  unheld whats.Large = refl
+
   shown_first : (l : Limits) → AreAllShown l 0 first_configuration [] (zero_words (word_count l))
   shown_first l =
       let z : (i : ℕ) → get_or (zero_words (word_count l)) i 0 ≡ 0 = zeros l in
       record {
         wide = length-replicate (word_count l) 0;
         made_is = z 0;
-        gate = record { gate = z 1; lfh = z 2; vs = z 3; back = z 4; large = z 5 };
+        gate = record { gate = z 1; locks = λ what is. z (lock_at what) ∙ unheld what };
         lfh = record {
           active = λ k lt. z (6 + k);
           bitmaps = λ k lt. z (2182 + 256 * l.segments + k);
@@ -391,11 +402,18 @@ module _ {T : Type 0} (stands : T → LayerState) (o : Opening) where
     shown = λ s e. record {
       legal = refl;
       words = shown_first o.limits;
-      home = record { deep = refl; vs = λ _. (vs, refl, a); back = λ _. (back, refl, b); large = λ _. (large, refl, c) };
+      home = record { deep = refl; full = λ what has free. first_full what has };
     };
     known = only;
   }
     where
+      first_full : (what : What) → HasSlot what → IsFull stands o opening (some (Some vs) ∷ some (Some back) ∷ some (Some large) ∷ []) what
+      first_full whats.Vs has = (vs, refl, a)
+      first_full whats.Back has = (back, refl, b)
+      first_full whats.Large has = (large, refl, c)
+      first_full whats.Gate has = absurd has
+      first_full whats.Lfh has = absurd has
+
       only : (j : ℕ) (v : View) → get_elem? (first_view o ∷ []) j ≡ some v → Knows o [] first_lead 0 (λ _. 0) [] j v
       only zero v e = subst (Knows o [] first_lead 0 (λ _. 0) [] 0) (some-injective (first_view o) v e) (record { seen = seen_none o [] first_lead; heard = seen_none o [] first_lead; role = (refl, refl, (λ n t. inr refl), (λ n t. absurd (omega arith)), refl) })
       only (suc j) v e = absurd (some-ne-none v (sym e))

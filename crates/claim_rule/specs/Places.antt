@@ -1,5 +1,5 @@
 -- Where the words of the table lie, for the limits l.
-use Rattle.std.specs.Prelude.{◌≡◌, ℕ, ◌+◌, ◌*◌, List, [], ◌∷◌}
+use Rattle.std.specs.Prelude.{◌≡◌, ℕ, ◌+◌, ◌*◌, ◌/◌, ◌%◌, ◌^◌, List, [], ◌∷◌}
 use Rattle.heap_model.specs.declared.Limits.{Limits}
 use Rattle.heap_model.specs.declared.What.{What}
 use Rattle.heap_model.specs.declared.What.TheVariants as whats
@@ -21,6 +21,11 @@ lock_at whats.Lfh = 2
 lock_at whats.Vs = 3
 lock_at whats.Back = 4
 lock_at whats.Large = 5
+
+-- the lock of a layer has a word of its own
+abbrev pub IsLayerLock : What → Type 0
+IsLayerLock whats.Gate = ⊥
+IsLayerLock _ = Unit {0}
 
 abbrev pub made_region : Region
 made_region = record { from = 0; words = 1 }
@@ -76,3 +81,42 @@ back_slot = 1
 
 abbrev pub large_slot : ℕ
 large_slot = 2
+
+abbrev pub slot_count : ℕ
+slot_count = 3
+
+---- The word of ..
+
+-- whether bucket b + 1 is active
+abbrev pub active_at : ℕ → ℕ
+active_at b = 6 + b
+
+-- the hint of a bucket and a slot
+abbrev pub hint_at : ℕ → ℕ → ℕ
+hint_at b t = 118 + 16 * b + t
+
+-- the tag of a page
+abbrev pub tag_at : ℕ → ℕ
+tag_at page = 2182 + page
+
+-- word w of the bitmap of the subsegment that begins at a page
+abbrev pub word_at_page : Limits → ℕ → ℕ → ℕ
+word_at_page l head w = 2182 + 256 * l.segments + (4 * head + w)
+
+-- the bitmap in which block i of that subsegment has its bit, and the bit
+abbrev pub bitmap_at : Limits → ℕ → ℕ → ℕ
+bitmap_at l head i = 2182 + 256 * l.segments + (4 * head + i / 64)
+
+abbrev pub bit_of_block : ℕ → ℕ
+bit_of_block i = 1 * 2 ^ (i % 64) % 2 ^ 64
+
+-- the size of the block at an address
+abbrev pub size_at : Limits → ℕ → ℕ
+size_at l addr = 2182 + 1280 * l.segments + addr / 16
+
+-- a data word, and how many there are
+abbrev pub data_at : Limits → ℕ → ℕ
+data_at l w = 2182 + 66816 * l.segments + w
+
+abbrev pub data_count : Limits → ℕ
+data_count l = 131072 * l.segments + 512 * l.large_pages

@@ -32,7 +32,8 @@ use Rattle.claim_rule.proofs.Quiet.{spans_of_same}
 use Rattle.backend_fit.specs.Kept.{Kept, area_of, taken_in, with_segment}
 use Rattle.backend_fit.specs.Sound.{IsSound}
 use Rattle.vs_layer.specs.Kept.{VsKept, places_of, served_of, active_of}
-use Rattle.lfh_claims.specs.Kept.{LfhKept, LfhPart, StandsFor, IsSubsegment, HaveOwnStarts, spans_for, hint_of}
+use Rattle.lfh_claims.specs.Kept.{LfhKept, LfhPart, StandsFor, IsSubsegment, spans_for, hint_of}
+use Rattle.step_parts.specs.Starts.{HaveOwnStarts}
 use Rattle.lfh_claims.specs.Takes.{StandsIn, hinted_span, at_hint, in_pass, lfh_run, TakesAtHint, TakesInPass, TakesNewSpan, Takes, AtHint, InPass, NewSpan}
 use Rattle.heap_now.specs.Blocks.{is_block_run, block_runs}
 use Rattle.heap_now.specs.Layers.{Layers, HasTaken}

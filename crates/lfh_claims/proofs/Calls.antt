@@ -16,10 +16,11 @@ use Rattle.heap_soundness.proofs.Lists.{all_at, all_from, all_removed, all_back,
 use Rattle.claim_rule.specs.Places.{active_region, bitmaps_region, sizes_region, word_count}
 use Rattle.claim_rule.specs.Shown.{flag, bitmap_word, size_word, starts_in, tag_of}
 use Rattle.lfh_buckets.specs.Blocks.{IsBucket}
-use Rattle.lfh_claims.specs.Kept.{LfhKept, LfhPart, StandsFor, IsSubsegment, IsBlockOf, no_part, size_at, with_active, HaveOwnStarts, with_places, without_block, with_size}
+use Rattle.lfh_claims.specs.Kept.{LfhKept, LfhPart, StandsFor, IsSubsegment, IsBlockOf, no_part, size_at, with_active, with_places, without_block, with_size}
+use Rattle.step_parts.specs.Starts.{HaveOwnStarts}
 use Rattle.lfh_claims.proofs.Regions.{other_word, outside, inside}
-use Rattle.lfh_claims.proofs.Starts.{begins, found_by_start, removed_by_start, changed_by_start, any_removed_other, any_removed_same, found_removed_other, own_removed, any_changed, found_changed_other, found_changed_same, own_changed}
-use Rattle.lfh_claims.proofs.Bits.{cleared, same_word_of, word_cleared}
+use Rattle.step_parts.proofs.Starts.{begins, found_by_start, removed_by_start, changed_by_start, any_removed_other, any_removed_same, found_removed_other, own_removed, any_changed, found_changed_other, found_changed_same, own_changed}
+use Rattle.step_parts.proofs.Bits.{cleared, same_word_of, word_cleared}
 use Rattle.lfh_claims.proofs.Seats.{Seat, seat, seat_of, one_block, bucket_is, all_of_lfh}
 use Rattle.lfh_buckets.proofs.BlockLemmas.{few_blocks}
 use Rattle.search_laws.proofs.Passes.{found_there}

@@ -1,6 +1,4 @@
 pub mod Regions
-pub mod Starts
-pub mod Bits
 pub mod Seats
 pub mod Calls
 pub mod Drops

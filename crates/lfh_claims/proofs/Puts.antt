@@ -16,10 +16,11 @@ use Rattle.claim_rule.specs.Places.{active_region, bitmaps_region, sizes_region}
 use Rattle.claim_rule.specs.Shown.{flag, bitmap_word, size_word}
 use Rattle.lfh_buckets.specs.Blocks.{IsBucket}
 use Rattle.lfh_buckets.proofs.BlockLemmas.{few_blocks, size_in_granules}
-use Rattle.lfh_claims.specs.Kept.{LfhKept, LfhPart, StandsFor, IsSubsegment, IsBlockOf, HaveOwnStarts, IsFree, with_block}
+use Rattle.lfh_claims.specs.Kept.{LfhKept, LfhPart, StandsFor, IsSubsegment, IsBlockOf, IsFree, with_block}
+use Rattle.step_parts.specs.Starts.{HaveOwnStarts}
 use Rattle.lfh_claims.proofs.Regions.{other_word, outside, inside}
-use Rattle.lfh_claims.proofs.Starts.{begins}
-use Rattle.lfh_claims.proofs.Bits.{with_bit, same_word_of, word_with}
+use Rattle.step_parts.proofs.Starts.{begins}
+use Rattle.step_parts.proofs.Bits.{with_bit, same_word_of, word_with}
 use Rattle.lfh_buckets.proofs.Seats.{IsSeat}
 use Rattle.lfh_claims.proofs.Seats.{seat_of, one_block, bucket_is}
 use Rattle.search_laws.proofs.Passes.{found_there}

@@ -14,7 +14,7 @@ use Rattle.claim_rule.specs.Shown.{tag_of}
 use Rattle.lfh_buckets.specs.Blocks.{IsBucket}
 use Rattle.lfh_buckets.proofs.Seats.{IsSeat, block_seat, same_number}
 use Rattle.lfh_claims.specs.Kept.{LfhKept, LfhPart, StandsFor, IsSubsegment, IsBlockOf}
-use Rattle.lfh_claims.proofs.Starts.{OfLfh, begins, found_by_start}
+use Rattle.step_parts.proofs.Starts.{OfLfh, begins, found_by_start}
 
 pub bucket_is : (l : Limits) (x : Span) → IsSubsegment l x → IsBucket x.bucket
 bucket_is l x h = record { first = h.bucket.0; last = h.bucket.1 }

@@ -15,6 +15,7 @@ use Rattle.heap_soundness.specs.Sound.{IsOneOf, AreInOrder}
 use Rattle.search_laws.specs.Calls.{hint_put}
 use Rattle.claim_rule.specs.Places.{active_region, hints_region, tags_region, bitmaps_region, sizes_region, word_count}
 use Rattle.claim_rule.specs.Shown.{AreShown, flag, tag_of, bitmap_word, size_word}
+use Rattle.step_parts.specs.Starts.{HaveOwnStarts}
 
 -- what the code keeps
 pub record LfhKept : Type 0 where
@@ -62,11 +63,6 @@ pub record IsBlockOf (xs : List Span) (p : Place) : Type 0 where
   pub size : ℕ
   pub live : p.status ≡ Live size
   pub fits : (size ≤ block_size span.bucket) × (size ≤ 16368)
-
--- no two begin at one address
-abbrev pub HaveOwnStarts : List Place → Type 0
-HaveOwnStarts [] = Unit {0}
-HaveOwnStarts (p ∷ ps) = AllByRecursion (λ q. p.start ≡ q.start → ⊥) ps × HaveOwnStarts ps
 
 -- The words show the front end of a state, as the table of the heap has them.
 pub record StandsFor (k : LfhKept) (t : LfhPart) : Type 0 where

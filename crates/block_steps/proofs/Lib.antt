@@ -1,0 +1,6 @@
+pub mod Claims
+pub mod Sizes
+pub mod SizeWords
+pub mod Blocks
+pub mod Calm
+pub mod Searches

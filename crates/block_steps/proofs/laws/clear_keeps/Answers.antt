@@ -1,0 +1,5 @@
+use Rattle.block_steps.proofs.Blocks.{clear_law}
+use Rattle.block_steps.proofs.laws.clear_keeps.Goals as goal
+
+pub returns : goal.returns
+returns g c = clear_law g.T.Stands.stands

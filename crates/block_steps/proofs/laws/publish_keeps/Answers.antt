@@ -1,0 +1,5 @@
+use Rattle.block_steps.proofs.Blocks.{publish_law}
+use Rattle.block_steps.proofs.laws.publish_keeps.Goals as goal
+
+pub returns : goal.returns
+returns g c = publish_law g.T.Stands.stands

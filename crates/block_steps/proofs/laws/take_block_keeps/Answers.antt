@@ -1,0 +1,5 @@
+use Rattle.block_steps.proofs.Blocks.{take_block_law}
+use Rattle.block_steps.proofs.laws.take_block_keeps.Goals as goal
+
+pub returns : goal.returns
+returns g c = take_block_law g.T.Stands.stands

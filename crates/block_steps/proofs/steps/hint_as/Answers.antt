@@ -1,0 +1,15 @@
+use Rattle.std.proofs.Common.{ℕ, subst, sym}
+use mathlib.Core.Option.{none}
+use Rattle.atomic_table.specs.Table.{step, Allows}
+use Rattle.claim_rule.specs.Rule.{IsRuled}
+use Rattle.claim_rule.specs.Plays.{number_of}
+use Rattle.block_steps.specs.Searches.{hinted}
+use Rattle.block_steps.proofs.Searches.{hint_law}
+use Rattle.block_steps.proofs.steps.hint_as.Goals as goal
+
+pub load-requires : goal.load-requires
+load-requires g c =
+    let p = c.args.place.now in
+    let slots = c.args.top.now.table_id.slots in
+    let P : ℕ → Type 0 = λ z. Allows (IsRuled g.T.Stands.stands c.args.top.now.key) slots p.id p.me z (λ x. x) (hinted g.E.Carried.entries g.B.Target.bucket g.B.Target.slot (step slots z 0 0 none) p.me) in
+    (c.requires.table.0, c.requires.table.1, subst P (sym c.requires.word) (hint_law g.T.Stands.stands c.args.top.now.key slots p.id (number_of p.me.0.role) g.B.Target.bucket g.B.Target.slot p.me g.E.Carried.entries c.requires.ready c.requires.bucket.0 c.requires.bucket.1 c.requires.bucket.2 c.requires.may))

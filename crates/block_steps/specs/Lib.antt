@@ -1,0 +1,4 @@
+pub mod Claims
+pub mod Blocks
+pub mod Searches
+pub mod Laws

@@ -1,0 +1,6 @@
+pub mod Stores
+pub mod Made
+pub mod Installs
+pub mod Freed
+pub mod Retires
+pub mod Hinted

@@ -1,0 +1,4 @@
+pub mod Stores
+pub mod Installs
+pub mod Retires
+pub mod Laws

@@ -1,0 +1,10 @@
+pub mod Filters
+pub mod Front
+pub mod Starts
+pub mod Bits
+pub mod Blocks
+pub mod Lasting
+pub mod Hands
+pub mod Held
+pub mod Placed
+pub mod Tagged
