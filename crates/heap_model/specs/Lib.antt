@@ -17,3 +17,5 @@ pub mod Shape
 pub mod Serial
 pub mod Layout
 pub mod Layers
+pub mod Marks
+pub mod Rest

@@ -2,14 +2,23 @@
 // The definitions over them stand in specs/, and what a caller can rely on, with its theorems, in proofs/.
 #![tactic(auto)]
 
-ghost use Rattle.std.specs.Prelude.{◌↔◌, IsTrue};
+ghost use Rattle.std.specs.Prelude.{◌↔◌, ◌≡◌, IsTrue};
 ghost use Rattle.heap_model.specs.Limits.{AreValid};
+ghost use Rattle.heap_model.specs.Marks.{lfh_mark, back_mark};
 
+mod geometry;
 mod stands;
+#[cfg(test)]
+mod tests;
+mod words;
 
+pub use geometry::{
+    FRONT_GRANULES, GRANULE_BYTES, HEADER_PAGES, MOST_PAGED, MOST_SMALL, MOST_VARIABLE, PAGE_BYTES,
+    PAGE_GRANULES, SEGMENT_GRANULES, SEGMENT_PAGES, WORD_BITS,
+};
 pub use stands::Stands;
-
 use std::alloc::AllocError;
+pub use words::{Words, filled};
 
 /// The layer that keeps a block: the low-fragmentation front end, the variable-size layer, the back end of page spans,
 /// or the area of large blocks, as the published description of the segment heap names them.
@@ -99,6 +108,56 @@ pub struct Mark {
     pub bucket: u8,
     pub slot: u8,
     pub unused: u16,
+}
+
+impl Mark {
+    /// A header page, or one of a segment that is not reserved.
+    pub const HEADER: Mark = Mark {
+        kind: Kind::Header,
+        bucket: 0,
+        slot: 0,
+        unused: 0,
+    };
+
+    /// A free run.
+    pub const FREE: Mark = Mark {
+        kind: Kind::Free,
+        bucket: 0,
+        slot: 0,
+        unused: 0,
+    };
+
+    /// A span of the variable-size layer.
+    pub const VS: Mark = Mark {
+        kind: Kind::Vs,
+        bucket: 0,
+        slot: 0,
+        unused: 0,
+    };
+
+    /// A subsegment of the low-fragmentation front end.
+    pub fn lfh(bucket: u8, slot: u8) -> Mark
+        ensures { result ≡ lfh_mark bucket slot }
+    {
+        Mark {
+            kind: Kind::Lfh,
+            bucket,
+            slot,
+            unused: 0,
+        }
+    }
+
+    /// A block of the back end that leaves so many bytes of its pages unused.
+    pub fn back(unused: u16) -> Mark
+        ensures { result ≡ back_mark unused }
+    {
+        Mark {
+            kind: Kind::Back,
+            bucket: 0,
+            slot: 0,
+            unused,
+        }
+    }
 }
 
 /// A span or a free run: its first page, counted through all segments, and how many pages it has.
