@@ -9,3 +9,5 @@ pub mod SearchCount
 pub mod Meeting
 pub mod Ending
 pub mod Counting
+pub mod Denying
+pub mod Turns

@@ -18,7 +18,8 @@ use Rattle.heap_model.proofs.GateSound.{row_of, held_is}
 use Rattle.heap_model.proofs.ListLemmas.{is_among-without}
 use Rattle.claim_rule.specs.Entries.{entry, leaves_words, may_prepare}
 use Rattle.claim_rule.specs.Steps.{MayPass, MayGoOut, MayTryLock, MayGiveUp}
-use Rattle.claim_steps.specs.Locks.{MayTake, MayGiveBack, HasSlot, slot_of}
+use Rattle.claim_rule.specs.Home.{HasSlot, slot_of}
+use Rattle.lock_steps.specs.Locks.{MayTake, MayGiveBack}
 use Rattle.heap_gate.specs.Token.{IsAt, is_out}
 use Rattle.heap_gate.specs.Calls.{call_with, is_begun_with, is_whole_with, is_free_with, HasRested}
 
@@ -258,6 +259,21 @@ module _ (s : Setting) (m : Configuration) (n : ℕ) where
     call = ap (λ (x : CallState). x.call) (called (acts.GiveLock what)) ∙ h.call;
     fresh = λ q. ap (λ (x : CallState). x.entered) (called (acts.GiveLock what)) ∙ h.fresh q;
     demand = λ _. refl;
+  }
+
+  -- an act that leaves the gate, the call and what is in hand, and demands nothing
+  pub at_plain : (c : Option Call) (f i : Bool) (d : ℕ) (out : List ℕ) (w e : Bool) (act : Act) → (next act).state.gate ≡ m.state.gate → hands (next act).state n ≡ hands m.state n → call_after s n (m.now.calls n) act ≡ m.now.calls n → (next act).now.demand ≡ Nothing
+      → IsAt m n c f i d out w e → IsAt (next act) n c f i d out true e
+  at_plain c f i d out w e act gate hand same none h = record {
+    entered = ap (λ (g : GateAndLocks). is_entered g n) gate ∙ h.entered;
+    turning = ap (λ (g : GateAndLocks). is_among n g.turning) gate ∙ h.turning;
+    owns = ap (λ (g : GateAndLocks). is_caller n g.owner) gate ∙ h.owns;
+    locks = λ x. ap (λ (g : GateAndLocks). holds g n x) gate ∙ h.locks x;
+    hands = λ y. hand ∙ h.hands y;
+    begun = h.begun;
+    call = ap (λ (x : CallState). x.call) (called act ∙ same) ∙ h.call;
+    fresh = λ q. ap (λ (x : CallState). x.entered) (called act ∙ same) ∙ h.fresh q;
+    demand = λ _. none;
   }
 
   -- a caller that has to turn back, of what it still is

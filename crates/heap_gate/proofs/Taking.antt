@@ -22,7 +22,8 @@ use Rattle.claim_rule.specs.Rule.{ready_after}
 use Rattle.claim_rule.specs.Plays.{Goes}
 use Rattle.claim_rule.proofs.Advance.{some_setting}
 use Rattle.claim_rule.proofs.Gate.{one_by}
-use Rattle.claim_steps.specs.Locks.{HasSlot, slot_of, Tells, owed_with}
+use Rattle.claim_rule.specs.Home.{HasSlot, slot_of, Tells}
+use Rattle.lock_steps.specs.Locks.{owed_with}
 use Rattle.heap_gate.specs.Token.{Token, IsAt, IsCaller, AreOut, outs, is_out}
 use Rattle.heap_gate.specs.Seated.{Face, tok}
 use Rattle.heap_gate.specs.Calls.{Runs, Reveals, IsGuarded, Stands, HasTaken, HasMissed, HasGiven, stance}

@@ -20,7 +20,8 @@ use Rattle.heap_model.specs.History.{configuration_after, own}
 use Rattle.heap_model.specs.Agreement.{AgreesFor, revealed}
 use Rattle.claim_rule.specs.declared.views.Owed.{Owed}
 use Rattle.claim_rule.specs.Entries.{IsLegalWith, entry}
-use Rattle.claim_steps.specs.Locks.{slot_of, Tells, owed_with}
+use Rattle.claim_rule.specs.Home.{slot_of, Tells}
+use Rattle.lock_steps.specs.Locks.{owed_with}
 use Rattle.heap_gate.specs.Token.{Token, now, Always, count}
 
 ---- A prepared entry

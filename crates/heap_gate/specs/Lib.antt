@@ -4,3 +4,4 @@ pub mod Calls
 pub mod Roots
 pub mod Words
 pub mod Counts
+pub mod Turns

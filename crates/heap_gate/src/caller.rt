@@ -1,6 +1,6 @@
 //! The token of one caller: what it tells, entering and leaving.
 ghost use Rattle.std.specs.Prelude.{◌≡◌, true, false, [], ◌∷◌, ◌++◌, OnOk, IfErr, Some, ◌&&◌, ◌<◌};
-ghost use Rattle.heap_model.specs.declared.Act.TheVariants.{Enter, Leave, Blocked};
+ghost use Rattle.heap_model.specs.declared.Act.TheVariants.{Enter, Leave, Blocked, NotLive};
 ghost use Rattle.heap_model.specs.declared.Call.{Call as ACall};
 ghost use Rattle.heap_model.specs.declared.Call.TheVariants.{Stay};
 ghost use Rattle.heap_model.specs.declared.What.TheVariants as whats;
@@ -8,35 +8,38 @@ ghost use Rattle.heap_model.specs.Legal.{is_lock_or_compact};
 ghost use Rattle.heap_model.specs.Search.{draw_of};
 ghost use Rattle.heap_model.specs.Stay.{for_some};
 ghost use Rattle.claim_rule.specs.Entries.{entry, slot_at, IsLegalWith};
+ghost use Rattle.look_steps.specs.Denials.{MayDeny};
 ghost use Rattle.heap_gate.specs.Token.{Always, now, IsStanding, IsEven};
 ghost use Rattle.heap_gate.specs.Calls.{begins, begun_with, stance, may_enter_by, HasEntered, HasTurnedBack, HasLeft};
 
 use crate::heap::Heap;
 use crate::entries::begin_if_none;
-use crate::steps::{Place, Prepared, enter_as, leave_as};
+use crate::steps::{Prepared, deny_leave_by, enter_as, leave_as};
 use heap_model::{Busy, Call, Stands, What};
 use rand_pcg::Pcg32;
 use random_pick::{Draw, Draws};
 use std::marker::{Brand, Model};
+use step_parts::Seating;
 
 /// The token of one caller. Contracts see beside its fields the list that the caller has seen, the slots of the layer locks
-/// that it holds, what it owes under the back end's lock, and how many of its calls have searched.
+/// that it holds, what it owes under the back end's lock, and how many of its calls have searched. Its fields are open to crates
+/// that add steps of their own, as the one of data words does: what holds of a token has to hold again behind such a step.
 #[derive(Drop)]
 pub struct Caller<T: Stands> {
-    pub(crate) place: Place<T>,
-    pub(crate) number: u32,
-    pub(crate) slot: u32,
-    pub(crate) prepared: Prepared,
-    pub(crate) pending: bool,
-    pub(crate) call: Option<Call>,
-    pub(crate) fresh: bool,
-    pub(crate) locked: bool,
-    pub(crate) inside: bool,
-    pub(crate) depth: u16,
-    pub(crate) whole: bool,
-    pub(crate) free: bool,
-    pub(crate) drawn: bool,
-    pub(crate) draws: Draws<Pcg32>,
+    pub place: Seating<T>,
+    pub number: u32,
+    pub slot: u32,
+    pub prepared: Prepared,
+    pub pending: bool,
+    pub call: Option<Call>,
+    pub fresh: bool,
+    pub locked: bool,
+    pub inside: bool,
+    pub depth: u16,
+    pub whole: bool,
+    pub free: bool,
+    pub drawn: bool,
+    pub draws: Draws<Pcg32>,
 }
 
 impl<T: Stands> Model for Caller<T> {
@@ -163,6 +166,25 @@ pub fn leave<T: Stands>(heap: &Heap<T>, c: &mut Caller<T>)
     ensures { HasLeft c.old c.new (entry c.old.number Leave ∷ []) }
 {
     leave_as::<T, Brand>(&heap.table.shared, &mut c.place, &c.prepared);
+    c.prepared.clear();
+    c.pending = false;
+    c.inside = false;
+}
+
+/// Leaves, and says that no live block has an address: where it lies only locks that were held changed what is there, or no
+/// block can begin.
+pub fn leave_denying<T: Stands>(heap: &Heap<T>, c: &mut Caller<T>, addr: u64)
+    requires table { c.old.table ≡ heap.now.table }
+    requires opening { c.old.opening ≡ heap.now.opening }
+    requires whole { c.old.whole ≡ true }
+    requires inside { c.old.inside ≡ true }
+    requires out { c.old.out ≡ [] }
+    requires free { c.old.free ≡ true }
+    requires drawn { c.old.searched ≡ c.old.drawn }
+    requires none { Always c.old (λ s. MayDeny c.old.opening.limits (now s c.old) c.old.number addr) }
+    ensures { HasLeft c.old c.new (entry c.old.number (NotLive addr) ∷ entry c.old.number Leave ∷ []) }
+{
+    deny_leave_by::<T, Brand, Brand>(&heap.table.shared, &mut c.place, &c.prepared, addr);
     c.prepared.clear();
     c.pending = false;
     c.inside = false;

@@ -13,7 +13,6 @@ use crate::caller::Caller;
 use crate::closed::{Closed, Words};
 use crate::heap::Heap;
 use crate::seats::{agree, count, deal, hear, relayed, take_in, tell};
-use crate::steps::Place;
 use arrayvec::ArrayVec;
 use atomic_table::Table;
 use heap_model::{Limits, Opening, OutOfMemory, Stands};
@@ -22,12 +21,13 @@ use random_pick::Draws;
 use std::alloc::Global;
 use std::marker::{Brand, Model};
 use std::snapshot::Snapshot;
+use step_parts::Seating;
 
 /// What makes callers, and takes them in again. Contracts see what the callers were made with, which have joined, and
 /// the list that the root has seen.
 #[derive(Drop)]
 pub struct Root<T: Stands> {
-    pub(crate) place: Place<T>,
+    pub(crate) place: Seating<T>,
     pub(crate) made: u32,
 }
 

@@ -9,30 +9,30 @@ ghost use Rattle.claim_rule.specs.declared.views.View.{View as AView};
 ghost use Rattle.claim_rule.specs.Entries.{IsSettingOf};
 ghost use Rattle.claim_rule.specs.Rule.{IsReady, ready_after};
 ghost use Rattle.claim_rule.specs.Steps.{MayPass, MayGoOut, MayTryLock, MayGiveUp};
-ghost use Rattle.claim_rule.specs.Plays.{looked, entered, left, locked, unlocked, number_of, Adds};
-ghost use Rattle.claim_steps.specs.Locks.{HasSlot, slot_of, Tells, IsPaid, MayTake, MayGiveBack, took};
+ghost use Rattle.claim_rule.specs.Entries.{entry};
+ghost use Rattle.claim_rule.specs.Plays.{looked, entered, left, locked, unlocked, number_of, Adds, Goes};
+ghost use Rattle.look_steps.specs.Denials.{MayDeny, denied_left};
+ghost use Rattle.claim_rule.specs.Home.{HasSlot, slot_of, Tells};
+ghost use Rattle.lock_steps.specs.Locks.{IsPaid, MayTake, MayGiveBack, took};
 ghost use Rattle.claim_rule.specs.Places.{lock_at};
 
 use arrayvec::ArrayVec;
-use atomic_table::{Seat, Shared};
 use claim_rule::{
-    Carried, Enters, GATE, HeapRule, Leaves, Locks, Looks, MADE, Unlocks, View,
+    Carried, Enters, GATE, Leaves, Locks, Looks, MADE, Unlocks,
 };
-use claim_steps::Guards;
-use claim_steps::steps::{give_as, take_as};
-use heap_model::{Act, Entry, Opening, Stands, What};
+use heap_model::{Act, Entry, Stands, What};
+use lock_steps::steps::{give_as, take_as};
+use look_steps::steps::{deny_give_as, deny_leave_as};
 use std::marker::Model;
+use step_parts::{Guards, Seating, Table, Target};
 
-pub(crate) type Top<T> = Shared<Option<T>, View, Opening, HeapRule<T>>;
+/// The entries that a caller has prepared.
+pub type Prepared = ArrayVec<Slip, 16>;
 
-pub(crate) type Place<T> = Seat<Option<T>, View>;
-
-pub(crate) type Prepared = ArrayVec<Slip, 16>;
-
-// A prepared entry.
+/// A prepared entry.
 #[derive(Clone, Copy)]
-pub(crate) struct Slip {
-    pub(crate) entry: Entry,
+pub struct Slip {
+    pub entry: Entry,
 }
 
 impl Model for Slip {
@@ -58,8 +58,8 @@ impl Default for Slip {
 
 // The entries are those of the caller, for the proof alone.
 pub(crate) fn look_as<T: Stands, E: Carried>(
-    top: &Top<T>,
-    place: &mut Place<T>,
+    top: &Table<T>,
+    place: &mut Seating<T>,
     _prepared: &Prepared,
 )
     requires table { (place.old.table_id ≡ top.now.table_id) × (5 < top.now.table_id.words) }
@@ -71,8 +71,8 @@ pub(crate) fn look_as<T: Stands, E: Carried>(
 }
 
 pub(crate) fn enter_as<T: Stands, E: Carried>(
-    top: &Top<T>,
-    place: &mut Place<T>,
+    top: &Table<T>,
+    place: &mut Seating<T>,
     _prepared: &Prepared,
 ) -> u64
     requires table { (place.old.table_id ≡ top.now.table_id) × (5 < top.now.table_id.words) }
@@ -85,8 +85,8 @@ pub(crate) fn enter_as<T: Stands, E: Carried>(
 }
 
 pub(crate) fn leave_as<T: Stands, E: Carried>(
-    top: &Top<T>,
-    place: &mut Place<T>,
+    top: &Table<T>,
+    place: &mut Seating<T>,
     _prepared: &Prepared,
 )
     requires table { (place.old.table_id ≡ top.now.table_id) × (5 < top.now.table_id.words) }
@@ -99,8 +99,8 @@ pub(crate) fn leave_as<T: Stands, E: Carried>(
 }
 
 pub(crate) fn lock_as<T: Stands, E: Carried>(
-    top: &Top<T>,
-    place: &mut Place<T>,
+    top: &Table<T>,
+    place: &mut Seating<T>,
     _prepared: &Prepared,
     tag: u64,
 ) -> u64
@@ -115,8 +115,8 @@ pub(crate) fn lock_as<T: Stands, E: Carried>(
 }
 
 pub(crate) fn unlock_as<T: Stands, E: Carried>(
-    top: &Top<T>,
-    place: &mut Place<T>,
+    top: &Table<T>,
+    place: &mut Seating<T>,
     _prepared: &Prepared,
     tag: u64,
 )
@@ -132,8 +132,8 @@ pub(crate) fn unlock_as<T: Stands, E: Carried>(
 
 // The lock is that of the caller's argument, for the proof alone.
 pub(crate) fn take_by<T: Stands, G: Guards, E: Carried>(
-    top: &Top<T>,
-    place: &mut Place<T>,
+    top: &Table<T>,
+    place: &mut Seating<T>,
     _prepared: &Prepared,
     _what: What,
     word: usize,
@@ -154,8 +154,8 @@ pub(crate) fn take_by<T: Stands, G: Guards, E: Carried>(
 }
 
 pub(crate) fn give_by<T: Stands + Drop, G: Guards, E: Carried>(
-    top: &Top<T>,
-    place: &mut Place<T>,
+    top: &Table<T>,
+    place: &mut Seating<T>,
     _prepared: &Prepared,
     _what: What,
     word: usize,
@@ -173,4 +173,45 @@ pub(crate) fn give_by<T: Stands + Drop, G: Guards, E: Carried>(
     ensures slot { (more : List (ℕ × Option T)) → place.old.me.1 ≡ (slot_of G.what, None) ∷ more → place.new.me.1 ≡ more }
 {
     give_as::<T, G, E>(top, place, word, slot, state);
+}
+
+// .. with the word that no live block has an address. The address is that of the caller's argument, for the proof alone.
+pub(crate) fn deny_give_by<T: Stands + Drop, G: Guards, B: Target, E: Carried>(
+    top: &Table<T>,
+    place: &mut Seating<T>,
+    _prepared: &Prepared,
+    _what: What,
+    _addr: u64,
+    word: usize,
+    slot: usize,
+    state: T,
+)
+    requires table { (place.old.table_id ≡ top.now.table_id) × (5 < top.now.table_id.words) }
+    requires lock { HasSlot G.what × (word ≡ lock_at G.what) × (slot ≡ slot_of G.what) }
+    requires out { (more : List (ℕ × Option T)) × (place.old.me.1 ≡ (slot_of G.what, None) ∷ more) }
+    requires paid { IsPaid G.what place.old.me.0.owes }
+    requires ready { IsReady (number_of place.old.me.0.role) place.old.me.0 E.entries }
+    requires may { (s : Setting) → IsSettingOf place.old.me.0.opening place.old.me.0.roll s → MayGiveBack (ready_after s place.old.me.0 E.entries) (number_of place.old.me.0.role) G.what × Tells G.what place.old.me.0.opening (ready_after s place.old.me.0 E.entries).state (T.stands state) }
+    requires none { (s : Setting) → IsSettingOf place.old.me.0.opening place.old.me.0.roll s → MayDeny top.now.key.limits (ready_after s place.old.me.0 E.entries) (number_of place.old.me.0.role) B.number }
+    ensures table { place.new.table_id ≡ place.old.table_id }
+    ensures told { Goes (number_of place.old.me.0.role) place.old.me.0 place.new.me.0 E.entries (entry (number_of place.old.me.0.role) (acts.NotLive B.number) ∷ entry (number_of place.old.me.0.role) (acts.GiveLock G.what) ∷ []) × (place.new.me.0.owes ≡ place.old.me.0.owes) }
+    ensures slot { (more : List (ℕ × Option T)) → place.old.me.1 ≡ (slot_of G.what, None) ∷ more → place.new.me.1 ≡ more }
+{
+    deny_give_as::<T, G, B, E>(top, place, word, slot, state);
+}
+
+pub(crate) fn deny_leave_by<T: Stands, B: Target, E: Carried>(
+    top: &Table<T>,
+    place: &mut Seating<T>,
+    _prepared: &Prepared,
+    _addr: u64,
+)
+    requires table { (place.old.table_id ≡ top.now.table_id) × (5 < top.now.table_id.words) }
+    requires ready { IsReady (number_of place.old.me.0.role) place.old.me.0 E.entries }
+    requires may { (s : Setting) → IsSettingOf place.old.me.0.opening place.old.me.0.roll s → MayGoOut (ready_after s place.old.me.0 E.entries) (number_of place.old.me.0.role) }
+    requires none { (s : Setting) → IsSettingOf place.old.me.0.opening place.old.me.0.roll s → MayDeny top.now.key.limits (ready_after s place.old.me.0 E.entries) (number_of place.old.me.0.role) B.number }
+    ensures table { place.new.table_id ≡ place.old.table_id }
+    ensures told { (r : ℕ) × denied_left E.entries B.number (step top.now.table_id.slots 1 1 0 none) place.old.me r place.new.me }
+{
+    deny_leave_as::<T, B, E>(top, place);
 }

@@ -11,7 +11,8 @@ use Rattle.heap_gate.specs.Seated.{Face, tok}
 
 use Rattle.std.specs.Prelude.{not, ◌||◌, ◌==◌}
 use Rattle.heap_model.specs.Legal.{leaves_whole}
-use Rattle.claim_steps.specs.Locks.{slot_of, Tells, MayGiveBack}
+use Rattle.claim_rule.specs.Home.{slot_of, Tells}
+use Rattle.lock_steps.specs.Locks.{MayGiveBack}
 use Rattle.heap_gate.specs.Token.{AreOut, is_out, Always, now}
 use Rattle.heap_gate.specs.Calls.{HasGiven}
 use Rattle.heap_gate.proofs.Standing.{give_of}

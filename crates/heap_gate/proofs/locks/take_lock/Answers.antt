@@ -16,7 +16,8 @@ use Rattle.heap_model.specs.State.{Setting}
 use Rattle.heap_model.specs.History.{configuration_of}
 use Rattle.claim_rule.specs.Entries.{IsSettingOf}
 use Rattle.claim_rule.specs.declared.views.View.{View}
-use Rattle.claim_steps.specs.Locks.{slot_of, Tells, MayTake}
+use Rattle.claim_rule.specs.Home.{slot_of, Tells}
+use Rattle.lock_steps.specs.Locks.{MayTake}
 use Rattle.heap_gate.specs.Token.{is_out}
 use Rattle.heap_gate.specs.Calls.{HasTaken, HasMissed, stance}
 use Rattle.heap_gate.proofs.Standing.{take_of}
