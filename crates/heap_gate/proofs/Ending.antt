@@ -27,7 +27,7 @@ use Rattle.claim_rule.proofs.Lists.{own_unnamed, legal_parts}
 use Rattle.claim_rule.proofs.Counts.{counted_after, counted_first, nobody_counted}
 use Rattle.claim_rule.proofs.Advance.{some_setting}
 use Rattle.claim_rule.proofs.Seats.{whole, root_of}
-use Rattle.heap_gate.specs.Token.{IsRoot, IsIdle, IsAtRest, is_of, joined_of, roll_in, lists_of, lead_at}
+use Rattle.heap_gate.specs.Roots.{IsRoot, IsIdle, IsAtRest, is_of, joined_of, roll_in, lists_of, lead_at}
 
 none_is : (o : Option ℕ) → ((d : ℕ) → is_caller d o ≡ false) → o ≡ None
 none_is None f = refl

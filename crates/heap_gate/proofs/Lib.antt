@@ -1,8 +1,13 @@
 pub mod Standing
 pub mod Tokens
+pub mod Preparation
 pub mod Turning
-pub mod Preparing
+pub mod Acting
 pub mod Begun
+pub mod Taking
+pub mod SearchCount
 pub mod Meeting
 pub mod Ending
 pub mod Counting
+pub mod Denying
+pub mod Turns

@@ -7,6 +7,8 @@ use Rattle.atomic_table.specs.Table.{Me, Step}
 use Rattle.atomic_table.specs.Seated.{TableId}
 use Rattle.rand_core.specs.Stream.{Stream}
 use Rattle.heap_model.specs.declared.Call.{Call}
+use Rattle.heap_model.specs.declared.What.{What}
+use Rattle.heap_model.specs.declared.What.TheVariants as whats
 use Rattle.heap_model.specs.declared.Entry.{Entry}
 use Rattle.heap_model.specs.State.{Setting, is_among}
 use Rattle.heap_model.specs.CallState.{Configuration, Nothing, holds_none}
@@ -27,9 +29,11 @@ use Rattle.claim_rule.specs.Plays.{agreed, numbered, heard_all, number_of}
 use Rattle.claim_rule.proofs.Lists.{after-append, follow_parts, legal_parts, none_between, named_more, setting_less, prefix_more, prefix_self, prefix_trans, slot_before}
 use Rattle.claim_rule.proofs.Seats.{at_joined}
 use Rattle.random_pick.specs.CallerDraws.{IsBeforeDraw}
-use Rattle.heap_gate.specs.Token.{Token, IsAt, IsIdle, IsCaller, HaveMet, IsRoot, root_token, HasJoined, AreTheirs, joined_of, roll_in, lists_of, lead_at}
-use Rattle.heap_gate.proofs.Standing.{at_agrees}
-use Rattle.heap_gate.proofs.Tokens.{tok}
+use Rattle.claim_rule.specs.declared.views.Owed.{Owed}
+use Rattle.heap_gate.specs.Token.{Token, IsAt, IsCaller, AreOut, outs, search_marks}
+use Rattle.heap_gate.specs.Seated.{Face, tok}
+use Rattle.heap_gate.specs.Roots.{IsIdle, HaveMet, IsRoot, root_token, HasJoined, AreTheirs, joined_of, roll_in, lists_of, lead_at}
+use Rattle.heap_gate.proofs.Standing.{at_agrees, none_of}
 
 -- entries of others leave what n alone decides
 pub agrees_longer : (s : Setting) (n : ℕ) (xs ys : List Entry) → Rattle.heap_model.specs.History.is_legal s ys ≡ true → IsPrefix xs ys → own n ys ≡ own n xs → AgreesFor n (configuration_of s ys) (configuration_of s xs)
@@ -42,8 +46,8 @@ agrees_longer s n xs ys l p o =
 pub idle_agrees : (s : Setting) (n : ℕ) (m k : Configuration) → AgreesFor n m k → IsIdle n k → IsIdle n m
 idle_agrees s n m k r h = record { counted = r.counted ∙ h.counted; owner = r.owner ∙ h.owner; locks = ap holds_none (caller_view_same n m k r) ∙ h.locks; hands = same_hands s n m k r ∙ h.hands }
 
-pub idle_of : (m : Configuration) (n : ℕ) (p : Option Call) → IsAt m n p false 0 → IsIdle n m
-idle_of m n p h = record { counted = absent (is_among n m.state.gate.counted) h.entered; owner = h.owns; locks = h.locks; hands = h.hands }
+pub idle_of : (m : Configuration) (n : ℕ) (call : Option Call) (fresh whole : Bool) → IsAt m n call fresh false 0 [] whole true → IsIdle n m
+idle_of m n call fresh whole h = record { counted = absent (is_among n m.state.gate.counted) h.entered; owner = h.owns; locks = none_of m n call 0 [] fresh false whole true refl h; hands = h.hands refl }
   where
     absent : (a : Bool) → (a && not (is_among n m.state.gate.turning)) ≡ false → a ≡ false
     absent true e = absurd (false≢true (sym e ∙ ap not h.turning))
@@ -97,6 +101,7 @@ module _ {T : Type 0} where
     pub opening : me'.0.opening ≡ me.0.opening
     pub role : me'.0.role ≡ me.0.role
     pub slots : me'.1 ≡ me.1
+    pub owes : me'.0.owes ≡ me.0.owes
 
   taken : (n : ℕ) (me me1 me' : Me (Option T) View) (w : View) (st : Step (Option T)) (r : ℕ) → me.0.role ≡ Caller n → me1 ≡ (told me.0 w, me.1) → agreed st me1 r me' → HasTaken n me me' w.roll w.seen
   taken n me me1 me' w st r is e a = go (subst (λ (m : Me (Option T) View). agreed st m r me') e a)
@@ -114,6 +119,7 @@ module _ {T : Type 0} where
         opening = b.opening;
         role = b.role;
         slots = b.slots;
+        owes = b.owes;
       }
 
   pub meets : (na nb : ℕ) (a a1 a2 a3 b b1 b2 b3 n1 n2 : Me (Option T) View) (st st' : Step (Option T)) (r r' : ℕ) → a.0.role ≡ Caller na → b.0.role ≡ Caller nb
@@ -124,50 +130,66 @@ module _ {T : Type 0} where
       let ta : HasTaken na a a3 b2.0.roll b2.0.seen = taken na a a2 a3 (relay b2.0) st' r' ra (ea' ∙ (ap (λ (m : Me (Option T) View). (told a1.0 m.0, a1.1)) en' ∙ ap (λ (m : Me (Option T) View). (told m.0 (relay b2.0), m.1)) ea)) aa in
       (subst (λ (m : Me (Option T) View). HasTaken nb b m a.0.roll a.0.seen) (sym eb') tb, subst (λ (m : Me (Option T) View). HasTaken na a a3 m.0.roll m.0.seen) (sym eb') ta)
 
-  module _ (z : TableId) (me : Me (Option T) View) (n : ℕ) (es : List Entry) (p : Option Call) (k l i : Bool) (d : ℕ) (w : Bool) (stream : Stream) (h : IsCaller me (tok z me n es p k l i d w) stream) (none : es ≡ []) (me' : Me (Option T) View) (roll : List Assignment) (list : List Entry) (t : HasTaken n me me' roll list) where
+  module _ (z : TableId) (me : Me (Option T) View) (f : Face) (slot : ℕ) (stream : Stream) (h : IsCaller me (tok z me f) slot stream) (none : f.prepared ≡ []) (me' : Me (Option T) View) (roll : List Assignment) (list : List Entry) (t : HasTaken f.number me me' roll list) where
     setting_was : (s : Setting) → IsSettingOf me'.0.opening me'.0.roll s → IsSettingOf me.0.opening me.0.roll s
     setting_was s q = setting_less me.0.opening me.0.roll me'.0.roll s t.roll_begins (subst (λ (o : Opening). IsSettingOf o me'.0.roll s) t.opening q)
 
-    pub agrees_taken : (s : Setting) → IsSettingOf me'.0.opening me'.0.roll s → AgreesFor n (configuration_after s (configuration_of s me'.0.seen) es) (configuration_after s (configuration_of s me.0.seen) es)
-    agrees_taken s q = subst (λ (x : List Entry). AgreesFor n (configuration_after s (configuration_of s me'.0.seen) x) (configuration_after s (configuration_of s me.0.seen) x)) (sym none) (agrees_longer s n me.0.seen me'.0.seen (t.legal s q) t.seen t.own_is)
+    pub agrees_taken : (s : Setting) → IsSettingOf me'.0.opening me'.0.roll s → AgreesFor f.number (configuration_after s (configuration_of s me'.0.seen) f.prepared) (configuration_after s (configuration_of s me.0.seen) f.prepared)
+    agrees_taken s q = subst (λ (x : List Entry). AgreesFor f.number (configuration_after s (configuration_of s me'.0.seen) x) (configuration_after s (configuration_of s me.0.seen) x)) (sym none) (agrees_longer s f.number me.0.seen me'.0.seen (t.legal s q) t.seen t.own_is)
 
-    pub caller_taken : (z' : TableId) (slot : ℕ) → slot_at me.0.roll n ≡ slot → IsCaller me' (tok z' me' n es p k l i d w) stream × (slot_at me'.0.roll n ≡ slot)
-    caller_taken z' slot e =
+    -- the token has seen more, and is else as it was
+    pub same_token : (z' : TableId) → z' ≡ z → tok z' me' f ≡ record (tok z me f) { roll = me'.0.roll; seen = me'.0.seen }
+    same_token z' e = λ j. record (tok z' me' f) {
+      table = e j;
+      opening = t.opening j;
+      out = outs (t.slots j);
+      owes = t.owes j;
+      searches = (search_marks (t.own_is j ++ f.prepared)).made;
+      searched = (search_marks (t.own_is j ++ f.prepared)).begun;
+    }
+
+    pub caller_taken : (z' : TableId) → IsCaller me' (tok z' me' f) slot stream
+    caller_taken z' =
         let len : length me'.0.roll ≡ length me.0.roll + length t.roll_begins.0 = sym (ap length t.roll_begins.1) ∙ length-append me.0.roll t.roll_begins.0 in
         let known = h.known in
-        let whole : (s : Setting) → IsSettingOf me'.0.opening me'.0.roll s → (configuration_after s (configuration_of s me'.0.seen) es).now.demand ≡ Nothing =
-        λ s q. ap (λ (x : List Entry). (configuration_after s (configuration_of s me'.0.seen) x).now.demand) none ∙ (legal_parts s me'.0.seen (t.legal s q)).1 in (
-          record {
-            ready = record { role = t.role ∙ h.ready.role; prepared = λ s q. ap (Rattle.claim_rule.specs.Entries.are_prepared s (configuration_of s me'.0.seen) n) none; whole = whole };
-            legal = t.legal;
-            slots = t.slots ∙ h.slots;
-            at = λ s q. at_agrees s (configuration_after s (configuration_of s me'.0.seen) es) (configuration_after s (configuration_of s me.0.seen) es) n p i d (agrees_taken s q) (whole s q) (h.at s (setting_was s q));
-            known = omega arith;
-            few = subst (λ (o : Opening). n < o.limits.callers) (sym t.opening) h.few;
-            small = subst (λ (o : Opening). o.limits.callers < 65536) (sym t.opening) h.small;
-            few_prepared = h.few_prepared;
-            alone = h.alone;
-            marks = ap (λ (x : List Entry). Rattle.heap_gate.specs.Token.marks_of (x ++ es)) t.own_is ∙ h.marks;
-            outside = h.outside;
-            draws = λ s q. h.draws s (setting_was s q);
-          },
-          ap (λ (y : List Assignment). slot_at y n) (sym t.roll_begins.1) ∙ (slot_before me.0.roll t.roll_begins.0 n h.known ∙ e),
-        )
+        let whole : (s : Setting) → IsSettingOf me'.0.opening me'.0.roll s → (configuration_after s (configuration_of s me'.0.seen) f.prepared).now.demand ≡ Nothing =
+        λ s q. ap (λ (x : List Entry). (configuration_after s (configuration_of s me'.0.seen) x).now.demand) none ∙ (legal_parts s me'.0.seen (t.legal s q)).1 in
+        record {
+          role = t.role ∙ h.role;
+          prepared = λ s q. ap (Rattle.claim_rule.specs.Entries.are_prepared s (configuration_of s me'.0.seen) f.number) none;
+          legal = t.legal;
+          slots = subst AreOut (sym t.slots) h.slots;
+          at = λ s q. subst (λ (o : List ℕ). IsAt (configuration_after s (configuration_of s me'.0.seen) f.prepared) f.number f.call f.fresh f.inside f.depth o f.whole f.free) (sym (ap outs t.slots))
+              (at_agrees s (configuration_after s (configuration_of s me'.0.seen) f.prepared) (configuration_after s (configuration_of s me.0.seen) f.prepared) f.number f.call f.fresh f.inside f.depth (outs me.1) f.whole f.free (agrees_taken s q) (whole s q) (h.at s (setting_was s q)));
+          even = record {
+            rests = h.even.rests;
+            drawn = λ i. ap (λ (x : List Entry). (search_marks (x ++ f.prepared)).begun) t.own_is ∙ h.even.drawn i;
+            whole = λ i o. h.even.whole i (sym (ap outs t.slots) ∙ o);
+            alone = λ i o. h.even.alone i (sym (ap outs t.slots) ∙ o);
+            begun = h.even.begun;
+          };
+          known = omega arith;
+          few = subst (λ (o : Opening). f.number < o.limits.callers) (sym t.opening) h.few;
+          small = subst (λ (o : Opening). o.limits.callers < 65536) (sym t.opening) h.small;
+          few_prepared = h.few_prepared;
+          slot_is = ap (λ (y : List Assignment). slot_at y f.number) (sym t.roll_begins.1) ∙ (slot_before me.0.roll t.roll_begins.0 f.number h.known ∙ h.slot_is);
+          draws = λ s q. subst (λ (x : List Entry). IsBeforeDraw s f.number ((search_marks (x ++ f.prepared)).made + Rattle.heap_gate.specs.Token.count f.drawn) stream) (sym t.own_is) (h.draws s (setting_was s q));
+        }
 
-  pub met : (za za' zb zb' : TableId) (a a' b b' : Me (Option T) View) (na nb : ℕ) (pa pb : List Entry) (ca cb : Option Call) (ka la ia kb lb ib : Bool) (da db : ℕ) (wa wb : Bool) (sa sb : Stream)
-      → IsCaller a (tok za a na pa ca ka la ia da wa) sa → IsCaller b (tok zb b nb pb cb kb lb ib db wb) sb → pa ≡ [] → pb ≡ [] → za' ≡ za → zb' ≡ zb
-      → HasTaken nb b b' a.0.roll a.0.seen → HasTaken na a a' b'.0.roll b'.0.seen
-      → HaveMet (tok za a na pa ca ka la ia da wa) (tok zb b nb pb cb kb lb ib db wb) (tok za' a' na pa ca ka la ia da wa) (tok zb' b' nb pb cb kb lb ib db wb)
-  met za za' zb zb' a a' b b' na nb pa pb ca cb ka la ia kb lb ib da db wa wb sa sb ha hb ea0 eb0 ea eb tb ta = record {
+  pub met : (za za' zb zb' : TableId) (a a' b b' : Me (Option T) View) (fa fb : Face) (la lb : ℕ) (sa sb : Stream)
+      → IsCaller a (tok za a fa) la sa → IsCaller b (tok zb b fb) lb sb → fa.prepared ≡ [] → fb.prepared ≡ [] → za' ≡ za → zb' ≡ zb
+      → HasTaken fb.number b b' a.0.roll a.0.seen → HasTaken fa.number a a' b'.0.roll b'.0.seen
+      → HaveMet (tok za a fa) (tok zb b fb) (tok za' a' fa) (tok zb' b' fb)
+  met za za' zb zb' a a' b b' fa fb la lb sa sb ha hb ea0 eb0 ea eb tb ta = record {
     one = ta.seen_is ∙ longer_is a.0.seen b'.0.seen tb.heard;
     one_roll = ta.roll_is ∙ longer_is a.0.roll b'.0.roll tb.heard_roll;
     legal = ta.legal;
     first = (ta.seen, ta.roll_begins, ta.own_is);
     second = (tb.seen, tb.roll_begins, tb.own_is);
-    agrees = agrees_taken za a na pa ca ka la ia da wa sa ha ea0 a' b'.0.roll b'.0.seen ta;
-    agrees' = agrees_taken zb b nb pb cb kb lb ib db wb sb hb eb0 b' a.0.roll a.0.seen tb;
-    same = ap (λ (x : TableId × Opening). record (tok za a' na pa ca ka la ia da wa) { table = x.0; opening = x.1 }) (λ j. (ea j, ta.opening j));
-    same' = ap (λ (x : TableId × Opening). record (tok zb b' nb pb cb kb lb ib db wb) { table = x.0; opening = x.1 }) (λ j. (eb j, tb.opening j));
+    agrees = agrees_taken za a fa la sa ha ea0 a' b'.0.roll b'.0.seen ta;
+    agrees' = agrees_taken zb b fb lb sb hb eb0 b' a.0.roll a.0.seen tb;
+    same = same_token za a fa la sa ha ea0 a' b'.0.roll b'.0.seen ta za' ea;
+    same' = same_token zb b fb lb sb hb eb0 b' a.0.roll a.0.seen tb zb' eb;
   }
 
   -- the root's role once it has taken in a caller
@@ -280,41 +302,53 @@ module _ {T : Type 0} where
   pub fresh : (z : TableId) (o : Opening) (a : Assignment) (v : View) (R : List Assignment) (J : List ℕ) (L : List (List Entry)) (seed : ℕ) (g : Rattle.rand_pcg.specs.Lcg.Lcg) (me : Me (Option T) View) (made : ℕ)
       → v.role ≡ Root (record { counted = length R + 1; roll = R; joined = J; lists = L; last = 0 }) → v.opening ≡ o → me ≡ (dealt a v, []) → length R ≡ made
       → length R < o.limits.callers → o.limits.callers ≤ 64 → seed ≡ o.seed → g ≡ Rattle.rand_pcg.specs.Lcg.started 64 Rattle.rand_pcg.specs.Pcg.multiplier_64 seed (Rattle.rand_pcg.specs.Lcg.increment_of 64 a.stream)
-      → IsCaller me (tok z me made [] None false false false 0 false) (Rattle.random_pick.specs.CallerDraws.words_of g) × (slot_at me.0.roll made ≡ a.slot)
+      → IsCaller me (tok z me (record { number = made; prepared = []; pending = false; call = None; fresh = false; locked = false; inside = false; depth = 0; whole = true; free = true; drawn = false })) a.slot (Rattle.random_pick.specs.CallerDraws.words_of g)
   fresh z o a v R J L seed g me made vr vo e len few small seeds made_by =
       let role : me.0.role ≡ Caller made = ap (λ (m : Me (Option T) View). m.0.role) e ∙ (ap Rattle.claim_rule.specs.Rule.dealt_role vr ∙ ap Caller len) in
       let roll : me.0.roll ≡ R ++ a ∷ [] = ap (λ (m : Me (Option T) View). m.0.roll) e ∙ ap (λ (r : Role). Rattle.claim_rule.specs.Rule.roll_of r ++ a ∷ []) vr in
       let opening : me.0.opening ≡ o = ap (λ (m : Me (Option T) View). m.0.opening) e ∙ vo in
       let seen : me.0.seen ≡ [] = ap (λ (m : Me (Option T) View). m.0.seen) e in
+      let slots : me.1 ≡ [] = ap (λ (m : Me (Option T) View). m.1) e in
       let longer_roll : length me.0.roll ≡ length R + 1 = ap length roll ∙ length-append R (a ∷ []) in
-      let known : made < length me.0.roll = omega arith in (
-        record {
-          ready = record { role = role; prepared = λ s q. refl; whole = λ s q. ap (λ (l : List Entry). (configuration_of s l).now.demand) seen };
-          legal = λ s q. ap (Rattle.heap_model.specs.History.is_legal s) seen;
-          slots = ap (λ (m : Me (Option T) View). m.1) e;
-          at = λ s q. subst (λ (l : List Entry). IsAt (configuration_of s l) made None false 0) (sym seen) (record {
-            entered = refl;
-            turning = refl;
-            owns = refl;
-            locks = refl;
-            hands = refl;
-            begun = λ x. absurd (false≢true x);
-            pends = λ c x. absurd (none_some c x);
-            searches = refl;
-            stage = refl;
-            demand = refl;
-          });
-          known = known;
-          few = subst (λ (x : Opening). made < x.limits.callers) (sym opening) (omega arith);
-          small = subst (λ (x : Opening). x.limits.callers < 65536) (sym opening) (omega arith);
-          few_prepared = omega arith;
-          alone = λ _. refl;
-          marks = ap (λ (l : List Entry). Rattle.heap_gate.specs.Token.marks_of (own made l ++ [])) seen;
-          outside = λ _. refl;
-          draws = λ s q. Rattle.random_pick.proofs.DrawLemmas.is_made s made seed a.stream g
-              (q.seed ∙ (ap (λ (x : Opening). x.seed) opening ∙ sym seeds))
-              (q.stream made known ∙ (ap (λ (l : List Assignment). Rattle.claim_rule.specs.Entries.stream_at l made) roll ∙ (ap (Rattle.claim_rule.specs.Entries.stream_at (R ++ a ∷ [])) (sym len) ∙ stream_last a R)))
-              made_by;
-        },
-        ap (λ (l : List Assignment). slot_at l made) roll ∙ (ap (slot_at (R ++ a ∷ [])) (sym len) ∙ slot_last a R),
-      )
+      let known : made < length me.0.roll = omega arith in
+      record {
+        role = role;
+        prepared = λ s q. refl;
+        legal = λ s q. ap (Rattle.heap_model.specs.History.is_legal s) seen;
+        slots = subst AreOut (sym slots) tt;
+        at = λ s q. subst (λ (x : List Entry × List ℕ). IsAt (configuration_of s x.0) made None false false 0 x.1 true true) (λ j. (sym seen j, sym (ap outs slots) j)) (record {
+          entered = refl;
+          turning = refl;
+          owns = refl;
+          locks = λ w. none_held w;
+          hands = λ _. refl;
+          begun = λ x. absurd (false≢true x);
+          call = refl;
+          fresh = λ _. refl;
+          demand = λ _. refl;
+        });
+        even = record {
+          rests = λ _. refl;
+          drawn = λ _. ap (λ (l : List Entry). (search_marks (own made l ++ [])).begun) seen;
+          whole = λ _ _. refl;
+          alone = λ _ _ _. refl;
+          begun = λ x. absurd (false≢true x);
+        };
+        known = known;
+        few = subst (λ (x : Opening). made < x.limits.callers) (sym opening) (omega arith);
+        small = subst (λ (x : Opening). x.limits.callers < 65536) (sym opening) (omega arith);
+        few_prepared = omega arith;
+        slot_is = ap (λ (l : List Assignment). slot_at l made) roll ∙ (ap (slot_at (R ++ a ∷ [])) (sym len) ∙ slot_last a R);
+        draws = λ s q. subst (λ (l : List Entry). IsBeforeDraw s made ((search_marks (own made l ++ [])).made + 0) (Rattle.random_pick.specs.CallerDraws.words_of g)) (sym seen)
+            (Rattle.random_pick.proofs.DrawLemmas.is_made s made seed a.stream g
+            (q.seed ∙ (ap (λ (x : Opening). x.seed) opening ∙ sym seeds))
+            (q.stream made known ∙ (ap (λ (l : List Assignment). Rattle.claim_rule.specs.Entries.stream_at l made) roll ∙ (ap (Rattle.claim_rule.specs.Entries.stream_at (R ++ a ∷ [])) (sym len) ∙ stream_last a R)))
+            made_by);
+      }
+    where
+      none_held : (w : What) → Rattle.heap_model.specs.State.holds Rattle.heap_model.specs.State.opening.gate made w ≡ Rattle.heap_gate.specs.Token.is_out w []
+      none_held whats.Gate = refl
+      none_held whats.Lfh = refl
+      none_held whats.Vs = refl
+      none_held whats.Back = refl
+      none_held whats.Large = refl

@@ -1,74 +1,92 @@
 -- Where a caller stands before and after each of its entries.
-use Rattle.std.proofs.Common.{◌≡◌, ℕ, ◌+◌, ◌<◌, Bool, true, false, not, ◌&&◌, ◌==◌, List, [], Option, Some, None, refl, sym, ap, ◌∙◌, eq-eqb}
-use Rattle.std.specs.Prelude.{is_some, is_none}
+use Rattle.std.proofs.Common.{◌≡◌, ℕ, ◌<◌, ◌==◌, Bool, true, false, not, ◌&&◌, ◌||◌, List, [], ◌∷◌, Option, Some, None, refl, sym, ap, ◌∙◌, eq-eqb, subst}
+use Rattle.std.specs.Prelude.{is_some, nat_lt}
 use Rattle.std.proofs.lemmas.Bool.{and_parts, and_from, or_left, or_right, both_ways, not-true, false≢true, lt-ltb}
 use Rattle.heap_model.specs.declared.Act.{Act}
 use Rattle.heap_model.specs.declared.Act.TheVariants as acts
 use Rattle.heap_model.specs.declared.Call.{Call}
-use Rattle.heap_model.specs.declared.What.TheVariants as whats
 use Rattle.heap_model.specs.declared.Layer.TheVariants as layers
-use Rattle.heap_model.specs.State.{Setting, GateAndLocks, Place, is_among, is_caller, is_entered, hands, updated, without}
+use Rattle.heap_model.specs.declared.What.{What}
+use Rattle.heap_model.specs.declared.What.TheVariants as whats
+use Rattle.heap_model.specs.State.{Setting, State, GateAndLocks, is_among, is_caller, is_entered, hands, holds, updated}
 use Rattle.heap_model.specs.Stay.{for_some}
-use Rattle.heap_model.specs.CallState.{Configuration, CallerView, CallState, Nothing, NotBegun, caller_view, is_outside, holds_none, held}
-use Rattle.heap_model.specs.Legal.{may, may_follow, after, is_lock_or_compact, call_after, gate_blocked, may_leave, is_empty, meets_demand, is_begin}
-use Rattle.heap_model.specs.Agreement.{AgreesFor}
+use Rattle.heap_model.specs.CallState.{Configuration, CallerView, CallState, Nothing, caller_view, is_outside, is_inside, holds_none, held}
+use Rattle.heap_model.specs.Legal.{may, may_follow, after, is_lock_or_compact, call_after, state_after, gate_blocked, is_empty, meets_demand, may_give_lock, leaves_whole}
+use Rattle.heap_model.specs.Agreement.{AgreesFor, is_stable}
 use Rattle.heap_model.proofs.Stable.{caller_view_same, same_hands}
-use Rattle.heap_model.proofs.GateSound.{none_held}
+use Rattle.heap_model.proofs.GateSound.{row_of, held_is}
 use Rattle.heap_model.proofs.ListLemmas.{is_among-without}
 use Rattle.claim_rule.specs.Entries.{entry, leaves_words, may_prepare}
 use Rattle.claim_rule.specs.Steps.{MayPass, MayGoOut, MayTryLock, MayGiveUp}
-use Rattle.heap_gate.specs.Token.{IsAt}
+use Rattle.claim_rule.specs.Home.{HasSlot, slot_of}
+use Rattle.lock_steps.specs.Locks.{MayTake, MayGiveBack}
+use Rattle.heap_gate.specs.Token.{IsAt, is_out}
+use Rattle.heap_gate.specs.Calls.{call_with, is_begun_with, is_whole_with, is_free_with, HasRested}
 
 updated_here : {A : Type 0} (f : ℕ → A) (n : ℕ) (x : A) → updated f n x n ≡ x
 updated_here f n x = let e = eq-eqb n n refl in rw e refl
 
 -- what is so where c alone decides, is so in each configuration that agrees
-pub at_agrees : (s : Setting) (m k : Configuration) (n : ℕ) (p : Option Call) (i : Bool) (d : ℕ) → AgreesFor n m k → m.now.demand ≡ Nothing → IsAt k n p i d → IsAt m n p i d
-at_agrees s m k n p i d r w h =
+pub at_agrees : (s : Setting) (m k : Configuration) (n : ℕ) (c : Option Call) (f i : Bool) (d : ℕ) (out : List ℕ) (w e : Bool) → AgreesFor n m k → m.now.demand ≡ Nothing → IsAt k n c f i d out w e → IsAt m n c f i d out w e
+at_agrees s m k n c f i d out w e r z h =
     let v = caller_view_same n m k r in
     record {
       entered = ap (λ (x : CallerView). x.entered) v ∙ h.entered;
       turning = r.turning ∙ h.turning;
       owns = r.owner ∙ h.owns;
-      locks = ap holds_none v ∙ h.locks;
-      hands = same_hands s n m k r ∙ h.hands;
-      begun = λ e. ap (λ (c : CallState). is_some c.call) r.call ∙ h.begun e;
-      pends = λ call e. let t = h.pends call e in (ap (λ (c : CallState). c.call) r.call ∙ t.0, ap (λ (c : CallState). c.entered) r.call ∙ t.1);
-      searches = ap (λ (c : CallState). c.searches) r.call ∙ h.searches;
-      stage = ap (λ (c : CallState). c.search.stage) r.call ∙ h.stage;
-      demand = w;
+      locks = λ what. r.locks what ∙ h.locks what;
+      hands = λ y. same_hands s n m k r ∙ h.hands y;
+      begun = h.begun;
+      call = ap (λ (x : CallState). x.call) r.call ∙ h.call;
+      fresh = λ y. ap (λ (x : CallState). x.entered) r.call ∙ h.fresh y;
+      demand = λ _. z;
     }
 
-none_some : {A : Type 0} (a : A) → None ≡ Some a → ⊥
-none_some a e = let no : ⊥ = cc in no
+---- What a step asks
 
--- a caller that is not inside is outside
-pub outside_of : (m : Configuration) (n : ℕ) (p : Option Call) (d : ℕ) → IsAt m n p false d → is_outside (caller_view m n) ≡ true
-outside_of m n p d h = and_from (not (is_entered m.state.gate n)) (not (is_among n m.state.gate.turning)) (ap not h.entered) (ap not h.turning)
+module _ (m : Configuration) (n : ℕ) (c : Option Call) (d : ℕ) (out : List ℕ) where
+  pub outside_of : (f w e : Bool) → IsAt m n c f false d out w e → is_outside (caller_view m n) ≡ true
+  outside_of f w e h = and_from (not (is_entered m.state.gate n)) (not (is_among n m.state.gate.turning)) (ap not h.entered) (ap not h.turning)
 
-pub pass_of : (m : Configuration) (n : ℕ) (call : Call) (p : Option Call) (d : ℕ) → p ≡ Some call → is_lock_or_compact call ≡ false → IsAt m n p false d → MayPass m n
-pass_of m n call p d e l h =
-    let t = h.pends call e in
-    record { outside = outside_of m n p d h; fresh = t.1; call = ap (λ (o : Option Call). for_some o (λ c. not (is_lock_or_compact c))) t.0 ∙ ap not l }
+  pub none_of : (f i w e : Bool) → out ≡ [] → IsAt m n c f i d out w e → holds_none (caller_view m n) ≡ true
+  none_of f i w e o h =
+      let a : (what : What) → holds m.state.gate n what ≡ is_out what [] = λ what. h.locks what ∙ ap (is_out what) o in
+      let lfh = a whats.Lfh in let vs = a whats.Vs in let back = a whats.Back in let large = a whats.Large in
+      and_from (not (holds m.state.gate n whats.Lfh) && not (holds m.state.gate n whats.Vs) && not (holds m.state.gate n whats.Back)) (not (holds m.state.gate n whats.Large))
+      (and_from (not (holds m.state.gate n whats.Lfh) && not (holds m.state.gate n whats.Vs)) (not (holds m.state.gate n whats.Back))
+      (and_from (not (holds m.state.gate n whats.Lfh)) (not (holds m.state.gate n whats.Vs)) (ap not lfh) (ap not vs)) (ap not back)) (ap not large)
 
-pub try_of : (m : Configuration) (n : ℕ) (call : Call) (p : Option Call) (d : ℕ) → p ≡ Some call → is_lock_or_compact call ≡ true → d ≡ 0 → IsAt m n p false d → MayTryLock m n
-try_of m n call p d e l z h =
-    let t = h.pends call e in
-    record { outside = outside_of m n p d h; owns = h.owns ∙ ap (λ (x : ℕ). not (x == 0)) z; call = ap (λ (o : Option Call). for_some o is_lock_or_compact) t.0 ∙ l }
+  pub pass_of : (w e : Bool) (call : Call) → c ≡ Some call → is_lock_or_compact call ≡ false → IsAt m n c true false d out w e → MayPass m n
+  pass_of w e call is l h = record { outside = outside_of true w e h; fresh = h.fresh refl; call = ap (λ (o : Option Call). for_some o (λ x. not (is_lock_or_compact x))) (h.call ∙ is) ∙ ap not l }
 
-pub out_of : (m : Configuration) (n : ℕ) (p : Option Call) (d : ℕ) → IsAt m n p true d → MayGoOut m n
-out_of m n p d h = record {
-  begun = h.begun refl;
-  may = or_right (is_among n m.state.gate.turning) _ (and_from (is_entered m.state.gate n && holds_none (caller_view m n)) (is_empty (hands m.state n)) (and_from (is_entered m.state.gate n) (holds_none (caller_view m n)) h.entered h.locks) (ap is_empty h.hands));
-}
+  pub out_of : (f w : Bool) → out ≡ [] → IsAt m n c f true d out w true → MayGoOut m n
+  out_of f w o h = record {
+    begun = ap is_some h.call ∙ h.begun refl;
+    may = or_right (is_among n m.state.gate.turning) _ (and_from (is_entered m.state.gate n && holds_none (caller_view m n)) (is_empty (hands m.state n)) (and_from (is_entered m.state.gate n) (holds_none (caller_view m n)) h.entered (none_of f true w true o h)) (ap is_empty (h.hands refl)));
+  }
 
-pub give_of : (m : Configuration) (n : ℕ) (p : Option Call) (d : ℕ) → d ≡ 1 → IsAt m n p false d → MayGiveUp m n
-give_of m n p d one h =
-    let owns : is_caller n m.state.gate.owner ≡ true = h.owns ∙ ap (λ (x : ℕ). not (x == 0)) one in
-    record {
-      begun = h.begun (ap (λ (x : ℕ). not (x == 0)) one);
-      may = and_from (is_caller n m.state.gate.owner && not (is_entered m.state.gate n)) (holds_none (caller_view m n)) (and_from (is_caller n m.state.gate.owner) (not (is_entered m.state.gate n)) owns (ap not h.entered)) h.locks;
-    }
+  pub try_of : (f w e : Bool) (call : Call) → c ≡ Some call → is_lock_or_compact call ≡ true → d ≡ 0 → IsAt m n c f false d out w e → MayTryLock m n
+  try_of f w e call is l z h = record { outside = outside_of f w e h; owns = h.owns ∙ ap (λ (x : ℕ). not (x == 0)) z; call = ap (λ (o : Option Call). for_some o is_lock_or_compact) (h.call ∙ is) ∙ l }
+
+  pub give_up_of : (f w e : Bool) → out ≡ [] → d ≡ 1 → IsAt m n c f false d out w e → MayGiveUp m n
+  give_up_of f w e o one h =
+      let owns : is_caller n m.state.gate.owner ≡ true = h.owns ∙ ap (λ (x : ℕ). not (x == 0)) one in
+      record {
+        begun = ap is_some h.call ∙ h.begun (ap (λ (x : ℕ). not (x == 0)) one);
+        may = and_from (is_caller n m.state.gate.owner && not (is_entered m.state.gate n)) (holds_none (caller_view m n)) (and_from (is_caller n m.state.gate.owner) (not (is_entered m.state.gate n)) owns (ap not h.entered)) (none_of f false w e o h);
+      }
+
+  inside_of : (f i w e : Bool) → (i || not (d == 0)) ≡ true → IsAt m n c f i d out w e → is_inside (caller_view m n) ≡ true
+  inside_of f i w e u h = (λ j. h.entered j || h.owns j) ∙ u
+
+  pub take_of : (f i w e : Bool) (what : What) → (i || not (d == 0)) ≡ true → is_out what out ≡ false → IsAt m n c f i d out w e → MayTake m n what
+  take_of f i w e what u o h = record { begun = ap is_some h.call ∙ h.begun u; inside = inside_of f i w e u h; free = held_is m n what ∙ (h.locks what ∙ o) }
+
+  pub give_of : (f i w e : Bool) (what : What) → (i || not (d == 0)) ≡ true → is_out what out ≡ true → leaves_whole m.state what ≡ true → IsAt m n c f i d out w e → MayGiveBack m n what
+  give_of f i w e what u o l h = record {
+    begun = ap is_some h.call ∙ h.begun u;
+    may = and_from (held (caller_view m n) what && is_inside (caller_view m n)) (leaves_whole m.state what) (and_from (held (caller_view m n) what) (is_inside (caller_view m n)) (held_is m n what ∙ (h.locks what ∙ o)) (inside_of f i w e u h)) l;
+  }
 
 ---- After an entry
 
@@ -79,253 +97,329 @@ module _ (s : Setting) (m : Configuration) (n : ℕ) where
   called : (act : Act) → (next act).now.calls n ≡ call_after s n (m.now.calls n) act
   called act = updated_here m.now.calls n (call_after s n (m.now.calls n) act)
 
-  pub at_enter : (p : Option Call) (d : ℕ) (call : Call) → p ≡ Some call → IsAt m n p false d → IsAt (next acts.Enter) n None true d
-  at_enter p d call e h = record {
+  pub at_enter : (c : Option Call) (f : Bool) (d : ℕ) (out : List ℕ) (w e : Bool) (call : Call) → c ≡ Some call → IsAt m n c f false d out w e → IsAt (next acts.Enter) n c false true d out true e
+  at_enter c f d out w e call is h = record {
     entered = let a = eq-eqb n n refl in let b = h.turning in rw (a, b) refl;
     turning = h.turning;
     owns = h.owns;
     locks = h.locks;
     hands = h.hands;
-    begun = λ _. ap (λ (c : CallState). is_some c.call) (called acts.Enter) ∙ ap is_some (h.pends call e).0;
-    pends = λ c q. absurd (none_some c q);
-    searches = ap (λ (c : CallState). c.searches) (called acts.Enter) ∙ h.searches;
-    stage = ap (λ (c : CallState). c.search.stage) (called acts.Enter) ∙ h.stage;
-    demand = refl;
+    begun = λ _. ap is_some is;
+    call = ap (λ (x : CallState). x.call) (called acts.Enter) ∙ h.call;
+    fresh = λ q. absurd (false≢true q);
+    demand = λ _. refl;
   }
 
-  pub at_leave : (p : Option Call) (d : ℕ) → IsAt m n p true d → IsAt (next acts.Leave) n None false d
-  at_leave p d h = record {
+  pub at_leave : (c : Option Call) (f : Bool) (d : ℕ) (out : List ℕ) (w e : Bool) → IsAt m n c f true d out w e → IsAt (next acts.Leave) n c f false d out true e
+  at_leave c f d out w e h = record {
     entered = let a = is_among-without n m.state.gate.counted in rw a refl;
     turning = is_among-without n m.state.gate.turning;
     owns = h.owns;
     locks = h.locks;
     hands = h.hands;
-    begun = λ _. ap (λ (c : CallState). is_some c.call) (called acts.Leave) ∙ h.begun refl;
-    pends = λ c q. absurd (none_some c q);
-    searches = ap (λ (c : CallState). c.searches) (called acts.Leave) ∙ h.searches;
-    stage = ap (λ (c : CallState). c.search.stage) (called acts.Leave) ∙ h.stage;
-    demand = refl;
+    begun = λ _. h.begun refl;
+    call = ap (λ (x : CallState). x.call) (called acts.Leave) ∙ h.call;
+    fresh = λ q. ap (λ (x : CallState). x.entered) (called acts.Leave) ∙ h.fresh q;
+    demand = λ _. refl;
   }
 
-  pub at_unlock : (p : Option Call) (d : ℕ) → IsAt m n p false d → IsAt (next acts.Unlock) n None false 0
-  at_unlock p d h = record {
+  pub at_lock : (c : Option Call) (f : Bool) (d : ℕ) (out : List ℕ) (w e : Bool) (call : Call) → c ≡ Some call → IsAt m n c f false d out w e → IsAt (next acts.Lock) n c f false 1 out true e
+  at_lock c f d out w e call is h = record {
+    entered = h.entered;
+    turning = h.turning;
+    owns = eq-eqb n n refl;
+    locks = h.locks;
+    hands = h.hands;
+    begun = λ _. ap is_some is;
+    call = ap (λ (x : CallState). x.call) (called acts.Lock) ∙ h.call;
+    fresh = λ q. ap (λ (x : CallState). x.entered) (called acts.Lock) ∙ h.fresh q;
+    demand = λ _. refl;
+  }
+
+  pub at_unlock : (c : Option Call) (f : Bool) (d : ℕ) (out : List ℕ) (w e : Bool) → IsAt m n c f false d out w e → IsAt (next acts.Unlock) n c f false 0 out true e
+  at_unlock c f d out w e h = record {
     entered = h.entered;
     turning = h.turning;
     owns = refl;
     locks = h.locks;
     hands = h.hands;
     begun = λ q. absurd (false≢true q);
-    pends = λ c q. absurd (none_some c q);
-    searches = ap (λ (c : CallState). c.searches) (called acts.Unlock) ∙ h.searches;
-    stage = ap (λ (c : CallState). c.search.stage) (called acts.Unlock) ∙ h.stage;
-    demand = refl;
-  }
-
-  pub at_lock : (p : Option Call) (d : ℕ) (call : Call) → p ≡ Some call → IsAt m n p false d → IsAt (next acts.Lock) n None false 1
-  at_lock p d call e h = record {
-    entered = h.entered;
-    turning = h.turning;
-    owns = eq-eqb n n refl;
-    locks = h.locks;
-    hands = h.hands;
-    begun = λ _. ap (λ (c : CallState). is_some c.call) (called acts.Lock) ∙ ap is_some (h.pends call e).0;
-    pends = λ c q. absurd (none_some c q);
-    searches = ap (λ (c : CallState). c.searches) (called acts.Lock) ∙ h.searches;
-    stage = ap (λ (c : CallState). c.search.stage) (called acts.Lock) ∙ h.stage;
-    demand = refl;
+    call = ap (λ (x : CallState). x.call) (called acts.Unlock) ∙ h.call;
+    fresh = λ q. ap (λ (x : CallState). x.entered) (called acts.Unlock) ∙ h.fresh q;
+    demand = λ _. refl;
   }
 
   -- a call of lock that found the gate taken
-  pub at_missed : (p : Option Call) (word : ℕ) (call : Call) → p ≡ Some call → is_lock_or_compact call ≡ true → IsAt m n p false 0 → IsAt (next (acts.Blocked whats.Gate word)) n None false 0
-  at_missed p word call e l h =
-      let stays : for_some (m.now.calls n).call is_lock_or_compact ≡ true = ap (λ (o : Option Call). for_some o is_lock_or_compact) (h.pends call e).0 ∙ l in
+  pub at_gate_taken : (c : Option Call) (f : Bool) (d : ℕ) (out : List ℕ) (w e : Bool) (word : ℕ) (call : Call) → c ≡ Some call → is_lock_or_compact call ≡ true → IsAt m n c f false d out w e → IsAt (next (acts.Blocked whats.Gate word)) n c f false d out true e
+  at_gate_taken c f d out w e word call is l h =
+      let stays : for_some (m.now.calls n).call is_lock_or_compact ≡ true = ap (λ (o : Option Call). for_some o is_lock_or_compact) (h.call ∙ is) ∙ l in
       let same : gate_blocked m.state.gate n (m.now.calls n) ≡ m.state.gate = rw stays refl in
       record {
-        entered = ap (λ (f : GateAndLocks). is_entered f n) same ∙ h.entered;
-        turning = ap (λ (f : GateAndLocks). is_among n f.turning) same ∙ h.turning;
+        entered = ap (λ (g : GateAndLocks). is_entered g n) same ∙ h.entered;
+        turning = ap (λ (g : GateAndLocks). is_among n g.turning) same ∙ h.turning;
         owns = h.owns;
         locks = h.locks;
         hands = h.hands;
-        begun = λ q. absurd (false≢true q);
-        pends = λ c q. absurd (none_some c q);
-        searches = ap (λ (c : CallState). c.searches) (called (acts.Blocked whats.Gate word)) ∙ h.searches;
-        stage = ap (λ (c : CallState). c.search.stage) (called (acts.Blocked whats.Gate word)) ∙ h.stage;
-        demand = refl;
+        begun = h.begun;
+        call = ap (λ (x : CallState). x.call) (called (acts.Blocked whats.Gate word)) ∙ h.call;
+        fresh = λ q. ap (λ (x : CallState). x.entered) (called (acts.Blocked whats.Gate word)) ∙ h.fresh q;
+        demand = λ _. refl;
       }
 
+  -- a layer lock that is another's
+  pub at_missed : (c : Option Call) (f i : Bool) (d : ℕ) (out : List ℕ) (w e : Bool) (what : What) (word : ℕ) → HasSlot what → IsAt m n c f i d out w e → IsAt (next (acts.Blocked what word)) n c f i d out true e
+  at_missed c f i d out w e what word slot h =
+      let same : (next (acts.Blocked what word)).state.gate ≡ m.state.gate = gate what slot in
+      record {
+        entered = ap (λ (g : GateAndLocks). is_entered g n) same ∙ h.entered;
+        turning = ap (λ (g : GateAndLocks). is_among n g.turning) same ∙ h.turning;
+        owns = ap (λ (g : GateAndLocks). is_caller n g.owner) same ∙ h.owns;
+        locks = λ x. ap (λ (g : GateAndLocks). holds g n x) same ∙ h.locks x;
+        hands = λ y. hand what slot ∙ h.hands y;
+        begun = h.begun;
+        call = ap (λ (x : CallState). x.call) (called (acts.Blocked what word)) ∙ h.call;
+        fresh = λ q. ap (λ (x : CallState). x.entered) (called (acts.Blocked what word)) ∙ h.fresh q;
+        demand = λ _. refl;
+      }
+    where
+      gate : (what : What) → HasSlot what → (next (acts.Blocked what word)).state.gate ≡ m.state.gate
+      gate whats.Vs y = refl
+      gate whats.Back y = refl
+      gate whats.Large y = refl
+      gate whats.Gate y = absurd y
+      gate whats.Lfh y = absurd y
+
+      hand : (what : What) → HasSlot what → hands (next (acts.Blocked what word)).state n ≡ hands m.state n
+      hand whats.Vs y = refl
+      hand whats.Back y = refl
+      hand whats.Large y = refl
+      hand whats.Gate y = absurd y
+      hand whats.Lfh y = absurd y
+
+  taken : (what x : What) (out : List ℕ) → HasSlot what → ((w : What) → holds m.state.gate n w ≡ is_out w out) → holds (next (acts.TakeLock what)).state.gate n x ≡ is_out x (slot_of what ∷ out)
+  taken whats.Vs whats.Vs out y h = eq-eqb n n refl
+  taken whats.Back whats.Back out y h = eq-eqb n n refl
+  taken whats.Large whats.Large out y h = eq-eqb n n refl
+  taken whats.Vs whats.Gate out y h = h whats.Gate
+  taken whats.Vs whats.Lfh out y h = h whats.Lfh
+  taken whats.Vs whats.Back out y h = h whats.Back
+  taken whats.Vs whats.Large out y h = h whats.Large
+  taken whats.Back whats.Gate out y h = h whats.Gate
+  taken whats.Back whats.Lfh out y h = h whats.Lfh
+  taken whats.Back whats.Vs out y h = h whats.Vs
+  taken whats.Back whats.Large out y h = h whats.Large
+  taken whats.Large whats.Gate out y h = h whats.Gate
+  taken whats.Large whats.Lfh out y h = h whats.Lfh
+  taken whats.Large whats.Vs out y h = h whats.Vs
+  taken whats.Large whats.Back out y h = h whats.Back
+  taken whats.Gate x out y h = absurd y
+  taken whats.Lfh x out y h = absurd y
+
+  pub at_taken : (c : Option Call) (f i : Bool) (d : ℕ) (out : List ℕ) (w e : Bool) (what : What) → HasSlot what → IsAt m n c f i d out w e → IsAt (next (acts.TakeLock what)) n c f i d (slot_of what ∷ out) true e
+  at_taken c f i d out w e what slot h = record {
+    entered = h.entered;
+    turning = h.turning;
+    owns = h.owns;
+    locks = λ x. taken what x out slot h.locks;
+    hands = h.hands;
+    begun = h.begun;
+    call = ap (λ (x : CallState). x.call) (called (acts.TakeLock what)) ∙ h.call;
+    fresh = λ q. ap (λ (x : CallState). x.entered) (called (acts.TakeLock what)) ∙ h.fresh q;
+    demand = λ _. refl;
+  }
+
+  -- No slot is out twice.
+  given : (what x : What) (out : List ℕ) → HasSlot what → is_out what out ≡ false → ((w : What) → holds m.state.gate n w ≡ is_out w (slot_of what ∷ out)) → holds (next (acts.GiveLock what)).state.gate n x ≡ is_out x out
+  given whats.Vs whats.Vs out y o h = sym o
+  given whats.Back whats.Back out y o h = sym o
+  given whats.Large whats.Large out y o h = sym o
+  given whats.Vs whats.Gate out y o h = h whats.Gate
+  given whats.Vs whats.Lfh out y o h = h whats.Lfh
+  given whats.Vs whats.Back out y o h = h whats.Back
+  given whats.Vs whats.Large out y o h = h whats.Large
+  given whats.Back whats.Gate out y o h = h whats.Gate
+  given whats.Back whats.Lfh out y o h = h whats.Lfh
+  given whats.Back whats.Vs out y o h = h whats.Vs
+  given whats.Back whats.Large out y o h = h whats.Large
+  given whats.Large whats.Gate out y o h = h whats.Gate
+  given whats.Large whats.Lfh out y o h = h whats.Lfh
+  given whats.Large whats.Vs out y o h = h whats.Vs
+  given whats.Large whats.Back out y o h = h whats.Back
+  given whats.Gate x out y o h = absurd y
+  given whats.Lfh x out y o h = absurd y
+
+  pub at_given : (c : Option Call) (f i : Bool) (d : ℕ) (out : List ℕ) (w e : Bool) (what : What) → HasSlot what → is_out what out ≡ false → IsAt m n c f i d (slot_of what ∷ out) w e → IsAt (next (acts.GiveLock what)) n c f i d out true e
+  at_given c f i d out w e what slot o h = record {
+    entered = h.entered;
+    turning = h.turning;
+    owns = h.owns;
+    locks = λ x. given what x out slot o h.locks;
+    hands = h.hands;
+    begun = h.begun;
+    call = ap (λ (x : CallState). x.call) (called (acts.GiveLock what)) ∙ h.call;
+    fresh = λ q. ap (λ (x : CallState). x.entered) (called (acts.GiveLock what)) ∙ h.fresh q;
+    demand = λ _. refl;
+  }
+
+  -- an act that leaves the gate, the call and what is in hand, and demands nothing
+  pub at_plain : (c : Option Call) (f i : Bool) (d : ℕ) (out : List ℕ) (w e : Bool) (act : Act) → (next act).state.gate ≡ m.state.gate → hands (next act).state n ≡ hands m.state n → call_after s n (m.now.calls n) act ≡ m.now.calls n → (next act).now.demand ≡ Nothing
+      → IsAt m n c f i d out w e → IsAt (next act) n c f i d out true e
+  at_plain c f i d out w e act gate hand same none h = record {
+    entered = ap (λ (g : GateAndLocks). is_entered g n) gate ∙ h.entered;
+    turning = ap (λ (g : GateAndLocks). is_among n g.turning) gate ∙ h.turning;
+    owns = ap (λ (g : GateAndLocks). is_caller n g.owner) gate ∙ h.owns;
+    locks = λ x. ap (λ (g : GateAndLocks). holds g n x) gate ∙ h.locks x;
+    hands = λ y. hand ∙ h.hands y;
+    begun = h.begun;
+    call = ap (λ (x : CallState). x.call) (called act ∙ same) ∙ h.call;
+    fresh = λ q. ap (λ (x : CallState). x.entered) (called act ∙ same) ∙ h.fresh q;
+    demand = λ _. none;
+  }
+
   -- a caller that has to turn back, of what it still is
-  pub record IsTurning (k : Configuration) (d : ℕ) : Type 0 where
+  pub record IsTurning (k : Configuration) (c : Option Call) (d : ℕ) (out : List ℕ) (e : Bool) : Type 0 where
     pub turning : is_among n k.state.gate.turning ≡ true
     pub owns : is_caller n k.state.gate.owner ≡ not (d == 0)
-    pub locks : holds_none (caller_view k n) ≡ true
-    pub hands : hands k.state n ≡ []
-    pub begun : is_some (k.now.calls n).call ≡ true
-    pub searches : (k.now.calls n).searches ≡ 0
-    pub stage : (k.now.calls n).search.stage ≡ NotBegun
+    pub locks : (w : What) → holds k.state.gate n w ≡ is_out w out
+    pub hands : e ≡ true → hands k.state n ≡ []
+    pub begun : is_some c ≡ true
+    pub call : (k.now.calls n).call ≡ c
 
-  pub at_blocked : (p : Option Call) (d word : ℕ) (call : Call) → p ≡ Some call → is_lock_or_compact call ≡ false → IsAt m n p false d → IsTurning (next (acts.Blocked whats.Gate word)) d
-  at_blocked p d word call e l h =
-      let goes : for_some (m.now.calls n).call is_lock_or_compact ≡ false = ap (λ (o : Option Call). for_some o is_lock_or_compact) (h.pends call e).0 ∙ l in
+  pub at_blocked : (c : Option Call) (f : Bool) (d : ℕ) (out : List ℕ) (w e : Bool) (word : ℕ) (call : Call) → c ≡ Some call → is_lock_or_compact call ≡ false → IsAt m n c f false d out w e → IsTurning (next (acts.Blocked whats.Gate word)) c d out e
+  at_blocked c f d out w e word call is l h =
+      let goes : for_some (m.now.calls n).call is_lock_or_compact ≡ false = ap (λ (o : Option Call). for_some o is_lock_or_compact) (h.call ∙ is) ∙ l in
       record {
         turning = let a = eq-eqb n n refl in rw (goes, a) refl;
         owns = h.owns;
         locks = h.locks;
         hands = h.hands;
-        begun = ap (λ (c : CallState). is_some c.call) (called (acts.Blocked whats.Gate word)) ∙ ap is_some (h.pends call e).0;
-        searches = ap (λ (c : CallState). c.searches) (called (acts.Blocked whats.Gate word)) ∙ h.searches;
-        stage = ap (λ (c : CallState). c.search.stage) (called (acts.Blocked whats.Gate word)) ∙ h.stage;
+        begun = ap is_some is;
+        call = ap (λ (x : CallState). x.call) (called (acts.Blocked whats.Gate word)) ∙ h.call;
       }
 
-module _ (s : Setting) (n : ℕ) where
-  pub turning_agrees : (x m k : Configuration) (d : ℕ) → AgreesFor n m k → IsTurning s x n k d → IsTurning s x n m d
-  turning_agrees x m k d r h = record {
+module _ (s : Setting) (n : ℕ) (c : Option Call) (d : ℕ) (out : List ℕ) (e : Bool) where
+  pub turning_agrees : (x m k : Configuration) → AgreesFor n m k → IsTurning s x n k c d out e → IsTurning s x n m c d out e
+  turning_agrees x m k r h = record {
     turning = r.turning ∙ h.turning;
     owns = r.owner ∙ h.owns;
-    locks = ap holds_none (caller_view_same n m k r) ∙ h.locks;
-    hands = same_hands s n m k r ∙ h.hands;
-    begun = ap (λ (c : CallState). is_some c.call) r.call ∙ h.begun;
-    searches = ap (λ (c : CallState). c.searches) r.call ∙ h.searches;
-    stage = ap (λ (c : CallState). c.search.stage) r.call ∙ h.stage;
+    locks = λ w. r.locks w ∙ h.locks w;
+    hands = λ y. same_hands s n m k r ∙ h.hands y;
+    begun = h.begun;
+    call = ap (λ (x : CallState). x.call) r.call ∙ h.call;
   }
 
-  pub turning_out : (x m : Configuration) (d : ℕ) → IsTurning s x n m d → MayGoOut m n
-  turning_out x m d h = record { begun = h.begun; may = or_left (is_among n m.state.gate.turning) _ h.turning }
+  pub turning_out : (x m : Configuration) → IsTurning s x n m c d out e → MayGoOut m n
+  turning_out x m h = record { begun = ap is_some h.call ∙ h.begun; may = or_left (is_among n m.state.gate.turning) _ h.turning }
 
-  pub at_turned : (x m : Configuration) (d : ℕ) → IsTurning s x n m d → IsAt (after s m (entry n acts.Leave)) n None false d
-  at_turned x m d h = record {
+  pub at_turned : (x m : Configuration) → IsTurning s x n m c d out e → IsAt (after s m (entry n acts.Leave)) n c false false d out true e
+  at_turned x m h = record {
     entered = let a = is_among-without n m.state.gate.counted in rw a refl;
     turning = is_among-without n m.state.gate.turning;
     owns = h.owns;
     locks = h.locks;
     hands = h.hands;
-    begun = λ _. ap (λ (c : CallState). is_some c.call) (called s m n acts.Leave) ∙ h.begun;
-    pends = λ c q. absurd (none_some c q);
-    searches = ap (λ (c : CallState). c.searches) (called s m n acts.Leave) ∙ h.searches;
-    stage = ap (λ (c : CallState). c.search.stage) (called s m n acts.Leave) ∙ h.stage;
-    demand = refl;
+    begun = λ _. h.begun;
+    call = ap (λ (x : CallState). x.call) (called s m n acts.Leave) ∙ h.call;
+    fresh = λ q. absurd (false≢true q);
+    demand = λ _. refl;
   }
 
--- a step that only looks, and carries what was prepared
-pub at_settled : (m : Configuration) (n : ℕ) (p : Option Call) (i : Bool) (d : ℕ) → IsAt m n p i d → IsAt m n None i d
-at_settled m n p i d h = record {
+---- A prepared entry
+
+module _ (s : Setting) (m : Configuration) (n : ℕ) (c : Option Call) (f i : Bool) (d : ℕ) (out : List ℕ) (w e : Bool) (h : IsAt m n c f i d out w e) where
+  -- what the act leaves: the gate, the call, and, where it is known, what is in hand
+  record Leaves (act : Act) : Type 0 where
+    pub gate : (after s m (entry n act)).state.gate ≡ m.state.gate
+    pub call : (call_after s n (m.now.calls n) act).call ≡ call_with c act
+    pub fresh : is_begun_with f act ≡ true → (call_after s n (m.now.calls n) act).entered ≡ false
+    pub hands : is_free_with e act ≡ true → hands (after s m (entry n act)).state n ≡ hands m.state n
+    pub was_free : is_free_with e act ≡ true → e ≡ true
+    pub demand : is_whole_with act ≡ true → (after s m (entry n act)).now.demand ≡ Nothing
+    pub begun : is_some c ≡ true → is_some (call_with c act) ≡ true
+
+  span_call : (first : ℕ) (kind : Rattle.heap_model.specs.declared.Kind.Kind) → not (Rattle.heap_model.specs.State.is_kind kind Rattle.heap_model.specs.declared.Kind.TheVariants.Lfh) ≡ true → Rattle.heap_model.specs.Legal.after_span s n (m.now.calls n) first kind ≡ m.now.calls n
+  span_call first Rattle.heap_model.specs.declared.Kind.TheVariants.Lfh q = absurd (false≢true q)
+  span_call first Rattle.heap_model.specs.declared.Kind.TheVariants.Vs q = refl
+  span_call first Rattle.heap_model.specs.declared.Kind.TheVariants.Back q = refl
+  span_call first Rattle.heap_model.specs.declared.Kind.TheVariants.Header q = refl
+  span_call first Rattle.heap_model.specs.declared.Kind.TheVariants.Free q = refl
+
+  no_span_call : (o : Option ℕ) (k : CallState) → (Rattle.heap_model.specs.Legal.step_search s n k (λ g x. Rattle.heap_model.specs.Search.after_no_span x) o).call ≡ k.call
+  no_span_call None k = refl
+  no_span_call (Some b) k = refl
+
+  no_span_entered : (o : Option ℕ) (k : CallState) → (Rattle.heap_model.specs.Legal.step_search s n k (λ g x. Rattle.heap_model.specs.Search.after_no_span x) o).entered ≡ k.entered
+  no_span_entered None k = refl
+  no_span_entered (Some b) k = refl
+
+  quiet : (act : Act) → leaves_words m n act ≡ true → Leaves act
+  quiet (acts.Begin call) q = record { gate = refl; call = refl; fresh = λ _. refl; hands = λ _. refl; was_free = λ y. y; demand = λ _. refl; begun = λ _. refl }
+  quiet (acts.Reserve segment) q = record { gate = refl; call = h.call; fresh = h.fresh; hands = λ _. refl; was_free = λ y. y; demand = λ y. absurd (false≢true y); begun = λ y. y }
+  quiet (acts.Span first pages kind bucket slot) q =
+      let e = span_call first kind q in
+      record { gate = refl; call = ap (λ (k : CallState). k.call) e ∙ h.call; fresh = λ y. ap (λ (k : CallState). k.entered) e ∙ h.fresh y; hands = λ _. refl; was_free = λ y. y; demand = λ y. absurd (false≢true y); begun = λ y. y }
+  quiet (acts.Unspan first) q = record { gate = refl; call = h.call; fresh = h.fresh; hands = λ _. refl; was_free = λ y. y; demand = λ _. refl; begun = λ y. y }
+  quiet (acts.Place start granules layer) q = record { gate = refl; call = h.call; fresh = h.fresh; hands = λ y. absurd (false≢true y); was_free = λ y. absurd (false≢true y); demand = λ _. refl; begun = λ y. y }
+  quiet (acts.Give a size) q = record { gate = refl; call = h.call; fresh = h.fresh; hands = λ y. absurd (false≢true y); was_free = λ y. absurd (false≢true y); demand = λ _. refl; begun = λ y. y }
+  quiet (acts.Take a size) q = record { gate = refl; call = h.call; fresh = h.fresh; hands = λ y. absurd (false≢true y); was_free = λ y. absurd (false≢true y); demand = λ _. refl; begun = λ y. y }
+  quiet (acts.Drop a) q = record { gate = refl; call = h.call; fresh = h.fresh; hands = λ y. absurd (false≢true y); was_free = λ y. absurd (false≢true y); demand = λ y. absurd (false≢true y); begun = λ y. y }
+  quiet (acts.Resize a granules size) q = record { gate = refl; call = h.call; fresh = h.fresh; hands = λ y. absurd (false≢true y); was_free = λ y. absurd (false≢true y); demand = λ _. refl; begun = λ y. y }
+  quiet (acts.NoSpan bucket) q =
+      let o = Rattle.heap_model.specs.Search.asked_bucket (m.now.calls n) in
+      record { gate = refl; call = no_span_call o (m.now.calls n) ∙ h.call; fresh = λ y. no_span_entered o (m.now.calls n) ∙ h.fresh y; hands = λ _. refl; was_free = λ y. y; demand = λ _. refl; begun = λ y. y }
+  quiet (acts.NoFit size) q = record { gate = refl; call = h.call; fresh = h.fresh; hands = λ _. refl; was_free = λ y. y; demand = λ _. refl; begun = λ y. y }
+  quiet (acts.Sized a size) q = record { gate = refl; call = h.call; fresh = h.fresh; hands = λ _. refl; was_free = λ y. y; demand = λ _. refl; begun = λ y. y }
+  quiet (acts.Decommit page) q = record { gate = refl; call = h.call; fresh = h.fresh; hands = λ _. refl; was_free = λ y. y; demand = λ _. refl; begun = λ y. y }
+  quiet acts.Enter q = absurd (false≢true q)
+  quiet acts.Leave q = absurd (false≢true q)
+  quiet acts.Lock q = absurd (false≢true q)
+  quiet acts.Unlock q = absurd (false≢true q)
+  quiet (acts.Blocked what word) q = absurd (false≢true q)
+  quiet (acts.TakeLock what) q = absurd (false≢true q)
+  quiet (acts.GiveLock what) q = absurd (false≢true q)
+  quiet (acts.Saw head word bits) q = absurd (false≢true q)
+  quiet (acts.Lost head index) q = absurd (false≢true q)
+  quiet (acts.NoHint bucket slot) q = absurd (false≢true q)
+  quiet (acts.Active bucket) q = absurd (false≢true q)
+  quiet (acts.NotLive a) q = absurd (false≢true q)
+  quiet (acts.Load x v) q = absurd (false≢true q)
+  quiet (acts.Store x v) q = absurd (false≢true q)
+
+  pub at_prepared : (act : Act) → leaves_words m n act ≡ true → IsAt (after s m (entry n act)) n (call_with c act) (is_begun_with f act) i d out (is_whole_with act) (is_free_with e act)
+  at_prepared act q =
+      let l = quiet act q in
+      let u = updated_here m.now.calls n (call_after s n (m.now.calls n) act) in
+      record {
+        entered = ap (λ (g : GateAndLocks). is_entered g n) l.gate ∙ h.entered;
+        turning = ap (λ (g : GateAndLocks). is_among n g.turning) l.gate ∙ h.turning;
+        owns = ap (λ (g : GateAndLocks). is_caller n g.owner) l.gate ∙ h.owns;
+        locks = λ x. ap (λ (g : GateAndLocks). holds g n x) l.gate ∙ h.locks x;
+        hands = λ y. l.hands y ∙ h.hands (l.was_free y);
+        begun = λ y. l.begun (h.begun y);
+        call = ap (λ (x : CallState). x.call) u ∙ l.call;
+        fresh = λ y. ap (λ (x : CallState). x.entered) u ∙ l.fresh y;
+        demand = l.demand;
+      }
+
+  pub begin_ok : (call : Call) → n < s.limits.callers → i ≡ false → out ≡ [] → e ≡ true → w ≡ true → may_prepare s m n (acts.Begin call) ≡ true
+  begin_ok call lt is o free whole =
+      let out' = subst (λ (b : Bool). IsAt m n c f b d out w e) is h in
+      and_from true (may_follow s m (entry n (acts.Begin call))) refl
+      (and_from (meets_demand m.state.back.area (entry n (acts.Begin call)) m.now.demand && true) (may s m n (acts.Begin call))
+      (and_from (meets_demand m.state.back.area (entry n (acts.Begin call)) m.now.demand) true (ap (meets_demand m.state.back.area (entry n (acts.Begin call))) (h.demand whole)) refl)
+      (and_from (nat_lt n s.limits.callers && is_outside (caller_view m n) && holds_none (caller_view m n)) (is_empty (hands m.state n))
+      (and_from (nat_lt n s.limits.callers && is_outside (caller_view m n)) (holds_none (caller_view m n)) (and_from (nat_lt n s.limits.callers) (is_outside (caller_view m n)) (lt-ltb n s.limits.callers lt) (outside_of m n c d out f w e out')) (none_of m n c d out f i w e o h)) (ap is_empty (h.hands free))))
+
+-- the caller says that it rests
+pub at_rested : (m : Configuration) (n : ℕ) (c : Option Call) (f i : Bool) (d : ℕ) (out : List ℕ) (w e : Bool) → HasRested m n → IsAt m n c f i d out w e → IsAt m n c f i d out true true
+at_rested m n c f i d out w e r h = record {
   entered = h.entered;
   turning = h.turning;
   owns = h.owns;
   locks = h.locks;
-  hands = h.hands;
+  hands = λ _. r.hands;
   begun = h.begun;
-  pends = λ c q. absurd (none_some c q);
-  searches = h.searches;
-  stage = h.stage;
-  demand = h.demand;
+  call = h.call;
+  fresh = h.fresh;
+  demand = λ _. r.demand;
 }
-
----- A Begin that is prepared
-
--- where no layer lock is held, nothing but a Begin can be prepared
-pub only_begin : (s : Setting) (m : Configuration) (n : ℕ) (act : Act) → holds_none (caller_view m n) ≡ true → hands m.state n ≡ [] → may_prepare s m n act ≡ true → (call : Call) × (act ≡ acts.Begin call)
-only_begin s m n act l e h = let q = and_parts (Rattle.heap_model.specs.Agreement.is_stable m n act && leaves_words m n act) (may_follow s m (entry n act)) h in go act q.0 (Rattle.heap_model.proofs.GateSound.row_of s m (entry n act) q.1)
-  where
-    no_back : (caller_view m n).back ≡ false
-    no_back = none_held (caller_view m n) whats.Back l
-
-    no_vs : (caller_view m n).vs ≡ false
-    no_vs = none_held (caller_view m n) whats.Vs l
-
-    no_large : (caller_view m n).large ≡ false
-    no_large = none_held (caller_view m n) whats.Large l
-
-    -- no place is held fast
-    exclusive : Rattle.heap_model.specs.State.exclusive_places m.state n ≡ []
-    exclusive = let a = no_vs in let b = no_back in let c = no_large in rw (a, b, c, e) refl
-
-    not_locked : (a : ℕ) → Rattle.heap_model.specs.Agreement.is_locked_at m n a ≡ false
-    not_locked a = ap (λ (ps : List Place). for_some (Rattle.std.specs.List.find (Rattle.heap_model.specs.State.has_address a) ps) (Rattle.heap_model.specs.Agreement.is_locked (caller_view m n))) exclusive
-
-    no_hand : (a : ℕ) → Rattle.heap_model.specs.State.hand_at m.state n a ≡ None
-    no_hand a = ap (λ (ps : List Place). Rattle.std.specs.List.find (Rattle.heap_model.specs.State.has_address a) ps) e
-
-    go : (act : Act) → (Rattle.heap_model.specs.Agreement.is_stable m n act && leaves_words m n act) ≡ true → may s m n act ≡ true → (call : Call) × (act ≡ acts.Begin call)
-    go (acts.Begin call) q r = (call, refl)
-    go (acts.Reserve segment) q r = absurd (both_ways _ no_back (Rattle.heap_model.proofs.Others.reserve_locks s m n segment r).1)
-    go (acts.Span first pages kind bucket slot) q r = absurd (both_ways _ no_back (Rattle.heap_model.proofs.Others.span_locks s m n (record { first = first; pages = pages; kind = kind; bucket = bucket; slot = slot }) r).1)
-    go (acts.Unspan first) q r = absurd (both_ways _ no_back (Rattle.heap_model.proofs.Others.unspan_locks s m n first r).0)
-    go (acts.Place start granules layers.Vs) q r = absurd (both_ways _ no_vs (Rattle.heap_model.proofs.Others.place_vs_locks s m n start granules r).1)
-    go (acts.Place start granules layers.Lfh) q r = absurd (false≢true (and_parts (Rattle.heap_model.specs.Agreement.is_stable m n (acts.Place start granules layers.Lfh)) false q).1)
-    go (acts.Place start granules layers.Back) q r = absurd (both_ways _ no_back (and_parts (caller_view m n).entered (caller_view m n).back (and_parts _ _ r).0).1)
-    go (acts.Place start granules layers.Large) q r = absurd (both_ways _ no_large (Rattle.heap_model.proofs.Others.place_large_locks s m n start granules r).1)
-    go (acts.Give a size) q r = absurd (false≢true (sym (ap (λ (o : Option Place). for_some o (λ p. Rattle.heap_model.specs.Legal.may_touch (caller_view m n) p.layer && Rattle.heap_model.specs.Legal.suits size p)) (no_hand a)) ∙ (and_parts (caller_view m n).entered _ r).1))
-    go (acts.Take a size) q r = absurd (both_ways _ (not_locked a) (and_parts _ _ q).0)
-    go (acts.Drop a) q r = absurd (false≢true (sym (ap (λ (o : Option Place). for_some o (λ p. Rattle.heap_model.specs.Legal.may_touch (caller_view m n) p.layer)) (no_hand a)) ∙ (and_parts (caller_view m n).entered _ r).1))
-    go (acts.Resize a granules size) q r = absurd (both_ways _ (not_locked a) (and_parts _ _ q).0)
-    go (acts.NoSpan bucket) q r = no_span
-      where
-        no_span : (call : Call) × (acts.NoSpan bucket ≡ acts.Begin call)
-        no_span =
-            let p = Rattle.heap_model.proofs.ListLemmas.for_some_parts (Rattle.heap_model.specs.Search.request_of s m n).search _ (and_parts (caller_view m n).entered _ r).1 in
-            absurd (both_ways _ no_back (and_parts (bucket == p.0) (caller_view m n).back (and_parts _ _ (and_parts _ _ p.2).0).0).1)
-    go (acts.NoFit size) q r = absurd (fit (Rattle.heap_model.specs.Geometry.route_of size) (and_parts _ _ r).1)
-      where
-        vs_range : (size : ℕ) → Rattle.heap_model.specs.Legal.has_no_vs_range s m.state.back.area (Rattle.heap_model.specs.Ranges.gaps m.state) (caller_view m n) size ≡ true → ⊥
-        vs_range size h = both_ways _ no_vs (and_parts (caller_view m n).vs (caller_view m n).back (and_parts _ _ (and_parts _ _ h).0).0).0
-
-        fit : (route : Rattle.heap_model.specs.Geometry.Route) → Rattle.heap_model.specs.Legal.has_no_range s m.state n (caller_view m n) (Rattle.heap_model.specs.Search.request_of s m n) size route ≡ true → ⊥
-        fit Rattle.heap_model.specs.Geometry.Small h = vs_range size (and_parts _ _ h).0
-        fit Rattle.heap_model.specs.Geometry.Variable h = vs_range size h
-        fit Rattle.heap_model.specs.Geometry.Paged h = both_ways _ no_back (and_parts (caller_view m n).back _ h).0
-        fit Rattle.heap_model.specs.Geometry.Huge h = both_ways _ no_large (and_parts (caller_view m n).large _ h).0
-    go (acts.Sized a size) q r = absurd (both_ways _ (not_locked a) (and_parts _ _ q).0)
-    go (acts.Decommit page) q r = absurd (both_ways _ no_back (Rattle.heap_model.proofs.Others.decommit_locks s m n page r).1)
-    go acts.Enter q r = absurd (false≢true q)
-    go acts.Leave q r = absurd (false≢true (and_parts (Rattle.heap_model.specs.Agreement.is_stable m n acts.Leave) false q).1)
-    go acts.Lock q r = absurd (false≢true q)
-    go acts.Unlock q r = absurd (false≢true (and_parts (Rattle.heap_model.specs.Agreement.is_stable m n acts.Unlock) false q).1)
-    go (acts.Blocked what word) q r = absurd (false≢true q)
-    go (acts.TakeLock what) q r = absurd (false≢true q)
-    go (acts.GiveLock what) q r = absurd (false≢true (and_parts (Rattle.heap_model.specs.Agreement.is_stable m n (acts.GiveLock what)) false q).1)
-    go (acts.Saw head word bits) q r = absurd (false≢true q)
-    go (acts.Lost head index) q r = absurd (false≢true q)
-    go (acts.NoHint bucket slot) q r = absurd (false≢true q)
-    go (acts.Active bucket) q r = absurd (false≢true (and_parts (Rattle.heap_model.specs.Agreement.is_stable m n (acts.Active bucket)) false q).1)
-    go (acts.NotLive a) q r = absurd (false≢true q)
-    go (acts.Load w v) q r = absurd (false≢true q)
-    go (acts.Store w v) q r = absurd (false≢true (and_parts (Rattle.heap_model.specs.Agreement.is_stable m n (acts.Store w v)) false q).1)
-
--- a caller outside can prepare a Begin
-pub begin_ok : (s : Setting) (m : Configuration) (n : ℕ) (p : Option Call) (d : ℕ) (call : Call) → n < s.limits.callers → IsAt m n p false d → may_prepare s m n (acts.Begin call) ≡ true
-begin_ok s m n p d call lt h =
-    and_from true (may_follow s m (entry n (acts.Begin call))) refl
-    (and_from (meets_demand m.state.back.area (entry n (acts.Begin call)) m.now.demand && true) (may s m n (acts.Begin call))
-    (and_from (meets_demand m.state.back.area (entry n (acts.Begin call)) m.now.demand) true (ap (meets_demand m.state.back.area (entry n (acts.Begin call))) h.demand) refl)
-    (and_from (Rattle.std.specs.Prelude.nat_lt n s.limits.callers && is_outside (caller_view m n) && holds_none (caller_view m n)) (is_empty (hands m.state n)) (begins (lt-ltb n s.limits.callers lt) (outside_of m n p d h) h.locks) (ap is_empty h.hands)))
-  where
-    begins : Rattle.std.specs.Prelude.nat_lt n s.limits.callers ≡ true → is_outside (caller_view m n) ≡ true → holds_none (caller_view m n) ≡ true → (Rattle.std.specs.Prelude.nat_lt n s.limits.callers && is_outside (caller_view m n) && holds_none (caller_view m n)) ≡ true
-    begins a b c = and_from (Rattle.std.specs.Prelude.nat_lt n s.limits.callers && is_outside (caller_view m n)) (holds_none (caller_view m n)) (and_from (Rattle.std.specs.Prelude.nat_lt n s.limits.callers) (is_outside (caller_view m n)) a b) c
-
--- the caller is outside who can
-pub begin_outside : (s : Setting) (m : Configuration) (n : ℕ) (p : Option Call) (i : Bool) (d : ℕ) (call : Call) → IsAt m n p i d → may_prepare s m n (acts.Begin call) ≡ true → i ≡ false
-begin_outside s m n p i d call h q =
-    let r = Rattle.heap_model.proofs.GateSound.row_of s m (entry n (acts.Begin call)) (and_parts true (may_follow s m (entry n (acts.Begin call))) q).1 in
-    let a = and_parts (Rattle.std.specs.Prelude.nat_lt n s.limits.callers && is_outside (caller_view m n) && holds_none (caller_view m n)) (is_empty (hands m.state n)) r in
-    let b = and_parts (Rattle.std.specs.Prelude.nat_lt n s.limits.callers && is_outside (caller_view m n)) (holds_none (caller_view m n)) a.0 in
-    let o = (and_parts (Rattle.std.specs.Prelude.nat_lt n s.limits.callers) (is_outside (caller_view m n)) b.0).1 in
-    sym h.entered ∙ not-true (is_entered m.state.gate n) (and_parts (not (is_entered m.state.gate n)) (not (is_among n m.state.gate.turning)) o).0
-
-some_is : (a b : Call) → Some a ≡ Some b → a ≡ b
-some_is a b e = cc (e)
-
-pub at_begin : (s : Setting) (m : Configuration) (n : ℕ) (p : Option Call) (i : Bool) (d : ℕ) (call : Call) → IsAt m n p i d → IsAt (after s m (entry n (acts.Begin call))) n (Some call) i d
-at_begin s m n p i d call h =
-    let u : (after s m (entry n (acts.Begin call))).now.calls n ≡ call_after s n (m.now.calls n) (acts.Begin call) = updated_here m.now.calls n (call_after s n (m.now.calls n) (acts.Begin call)) in
-    record {
-      entered = h.entered;
-      turning = h.turning;
-      owns = h.owns;
-      locks = h.locks;
-      hands = h.hands;
-      begun = λ _. ap (λ (c : CallState). is_some c.call) u;
-      pends = λ x e. (ap (λ (c : CallState). c.call) u ∙ e, ap (λ (c : CallState). c.entered) u);
-      searches = ap (λ (c : CallState). c.searches) u ∙ (ap (λ (k : Rattle.heap_model.specs.CallState.Stage). (m.now.calls n).searches + Rattle.heap_model.specs.Legal.searched_once k) h.stage ∙ (ap (λ (x : ℕ). x + 0) h.searches));
-      stage = ap (λ (c : CallState). c.search.stage) u;
-      demand = refl;
-    }

@@ -1,11 +1,12 @@
 -- How often a list has an act, and a caller with nothing under way.
-use Rattle.std.specs.Prelude.{◌≡◌, ℕ, ◌+◌, Bool, false, List, [], ◌∷◌, length, None}
+use Rattle.std.specs.Prelude.{◌≡◌, ℕ, ◌+◌, Bool, true, false, List, [], ◌∷◌, length}
 use mathlib.Core.List.{IsPrefix}
 use Rattle.heap_model.specs.declared.Act.{Act}
 use Rattle.heap_model.specs.declared.Act.TheVariants as acts
 use Rattle.heap_model.specs.declared.Entry.{Entry}
 use Rattle.heap_model.specs.History.{own}
-use Rattle.heap_gate.specs.Token.{HeapToken, RootToken, Token}
+use Rattle.heap_gate.specs.Token.{HeapToken, Token}
+use Rattle.heap_gate.specs.Roots.{RootToken}
 
 abbrev pub enters : Act → ℕ
 enters acts.Enter = 1
@@ -25,7 +26,11 @@ pub record IsSettled (h : HeapToken) (c : Token) (inside : Bool) : Type 0 where
   pub opening : c.opening ≡ h.opening
   pub inside_is : c.inside ≡ inside
   pub prepared : c.prepared ≡ []
-  pub pending : c.pending ≡ None
+  pub pending : c.pending ≡ false
+  pub out : c.out ≡ []
+  pub whole : c.whole ≡ true
+  pub free : c.free ≡ true
+  pub searched : c.searched ≡ false
   pub drawn : c.drawn ≡ false
 
 -- A heap, its root, and its two callers, which are outside and own nothing.

@@ -1,3 +1,7 @@
-pub mod Words
 pub mod Token
+pub mod Seated
+pub mod Calls
+pub mod Roots
+pub mod Words
 pub mod Counts
+pub mod Turns

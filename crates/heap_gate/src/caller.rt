@@ -1,48 +1,57 @@
-//! The token of one caller: entering, leaving, and what it prepares.
-ghost use Rattle.std.specs.Prelude.{◌≡◌, ◌<◌, true, false, [], ◌∷◌, ◌++◌, length, OnOk, IfErr, IfSome, Some};
+//! The token of one caller: what it tells, entering and leaving.
+ghost use Rattle.std.specs.Prelude.{◌≡◌, true, false, [], ◌∷◌, ◌++◌, OnOk, IfErr, Some, ◌&&◌, ◌<◌};
+ghost use Rattle.heap_model.specs.declared.Act.TheVariants.{Enter, Leave, Blocked, NotLive};
 ghost use Rattle.heap_model.specs.declared.Call.{Call as ACall};
-ghost use Rattle.heap_model.specs.declared.Act.TheVariants.{Enter, Leave, Blocked};
 ghost use Rattle.heap_model.specs.declared.Call.TheVariants.{Stay};
 ghost use Rattle.heap_model.specs.declared.What.TheVariants as whats;
 ghost use Rattle.heap_model.specs.Legal.{is_lock_or_compact};
 ghost use Rattle.heap_model.specs.Search.{draw_of};
-ghost use Rattle.claim_rule.specs.Entries.{entry, may_prepare, slot_at};
-ghost use Rattle.heap_gate.specs.Token.{Always, now, Runs, begins, begun_with, with_prepared, pending_after, mark, may_enter_by, HasEntered, HasTurnedBack};
+ghost use Rattle.heap_model.specs.Stay.{for_some};
+ghost use Rattle.claim_rule.specs.Entries.{entry, slot_at, IsLegalWith};
+ghost use Rattle.look_steps.specs.Denials.{MayDeny};
+ghost use Rattle.heap_gate.specs.Token.{Always, now, IsStanding, IsEven};
+ghost use Rattle.heap_gate.specs.Calls.{begins, begun_with, stance, may_enter_by, HasEntered, HasTurnedBack, HasLeft};
 
 use crate::heap::Heap;
-use crate::steps::{Place, Prepared, Slip, enter_as, leave_as, look_as};
-use heap_model::{Act, Busy, Call, Entry, Stands, What};
+use crate::entries::begin_if_none;
+use crate::steps::{Prepared, deny_leave_by, enter_as, leave_as};
+use heap_model::{Busy, Call, Stands, What};
 use rand_pcg::Pcg32;
 use random_pick::{Draw, Draws};
 use std::marker::{Brand, Model};
+use step_parts::Seating;
 
-/// The token of one caller. Contracts see beside its fields the list that the caller has seen.
+/// The token of one caller. Contracts see beside its fields the list that the caller has seen, the slots of the layer locks
+/// that it holds, what it owes under the back end's lock, and how many of its calls have searched. Its fields are open to crates
+/// that add steps of their own, as the one of data words does: what holds of a token has to hold again behind such a step.
 #[derive(Drop)]
 pub struct Caller<T: Stands> {
-    pub(crate) place: Place<T>,
-    pub(crate) number: u32,
-    pub(crate) slot: u32,
-    pub(crate) prepared: Prepared,
-    pub(crate) pending: Option<Call>,
-    pub(crate) compacts: bool,
-    pub(crate) locked: bool,
-    pub(crate) inside: bool,
-    pub(crate) depth: u16,
-    pub(crate) drawn: bool,
-    pub(crate) draws: Draws<Pcg32>,
+    pub place: Seating<T>,
+    pub number: u32,
+    pub slot: u32,
+    pub prepared: Prepared,
+    pub pending: bool,
+    pub call: Option<Call>,
+    pub fresh: bool,
+    pub locked: bool,
+    pub inside: bool,
+    pub depth: u16,
+    pub whole: bool,
+    pub free: bool,
+    pub drawn: bool,
+    pub draws: Draws<Pcg32>,
 }
 
 impl<T: Stands> Model for Caller<T> {
-    ghost use Rattle.std.specs.Prelude.{◌≡◌};
-    ghost use Rattle.claim_rule.specs.Entries.{slot_at};
     ghost use Rattle.random_pick.specs.CallerDraws.{words_of};
     ghost use Rattle.heap_gate.specs.Token.{Token, IsCaller};
+    ghost use Rattle.heap_gate.specs.Seated.{Face, tok};
 
     ghost Value = { Token };
 
-    ghost view = { λ c. record { table = c.place.table_id; opening = c.place.me.0.opening; roll = c.place.me.0.roll; seen = c.place.me.0.seen; number = c.number; prepared = c.prepared.items; pending = c.pending; compacts = c.compacts; locked = c.locked; inside = c.inside; depth = c.depth; drawn = c.drawn } };
+    ghost view = { λ c. tok c.place.table_id c.place.me record { number = c.number; prepared = c.prepared.items; pending = c.pending; call = c.call; fresh = c.fresh; locked = c.locked; inside = c.inside; depth = c.depth; whole = c.whole; free = c.free; drawn = c.drawn } };
 
-    ghost invariant = { λ c. IsCaller c.place.me record { table = c.place.table_id; opening = c.place.me.0.opening; roll = c.place.me.0.roll; seen = c.place.me.0.seen; number = c.number; prepared = c.prepared.items; pending = c.pending; compacts = c.compacts; locked = c.locked; inside = c.inside; depth = c.depth; drawn = c.drawn } (words_of c.draws) × (slot_at c.place.me.0.roll c.number ≡ c.slot) };
+    ghost invariant = { λ c. IsCaller c.place.me (tok c.place.table_id c.place.me record { number = c.number; prepared = c.prepared.items; pending = c.pending; call = c.call; fresh = c.fresh; locked = c.locked; inside = c.inside; depth = c.depth; whole = c.whole; free = c.free; drawn = c.drawn }) c.slot (words_of c.draws) };
 }
 
 impl<T: Stands> Caller<T> {
@@ -73,74 +82,28 @@ impl<T: Stands> Caller<T> {
     {
         self.inside
     }
-}
 
-// The call of the last prepared Begin, with one entry more.
-fn pending_with(pending: Option<Call>, act: Act) -> Option<Call>
-    ensures { result ≡ pending_after pending act }
-{
-    match act {
-        Act::Begin { call } => Some(call),
-        _ => pending,
+    /// Nothing at run time: it tells a proof what holds of each token, by the configuration behind its list.
+    pub fn check(&self)
+        ensures stands { IsStanding self.now }
+        ensures even { IsEven self.now }
+        ensures legal { IsLegalWith self.now.opening self.now.roll self.now.seen }
+        ensures few { self.now.number < self.now.opening.limits.callers }
+    {
+        let _number = self.number;
     }
-}
 
-// Whether the last Begin is of Compact, with one entry more.
-fn compacts_with(compacts: bool, act: Act) -> bool
-    ensures { result ≡ (mark (record { compacts = compacts; locked = false }) act).compacts }
-{
-    match act {
-        Act::Begin { call } => call == Call::Compact,
-        _ => compacts,
+    /// The draw of the search of the call under way.
+    pub fn draw(&mut self) -> Draw
+        requires inside { self.old.inside ≡ true }
+        requires fresh { self.old.drawn ≡ false }
+        ensures draw { Always self.old (λ s. result.value ≡ draw_of s self.old.number ((now s self.old).now.calls self.old.number).searches) }
+        ensures count { Always self.old (λ s. ((now s self.old).now.calls self.old.number).searches ≡ self.old.searches) }
+        ensures drawn { self.new ≡ record self.old { drawn = true } }
+    {
+        self.drawn = true;
+        self.draws.draw()
     }
-}
-
-// Whether a Lock stands behind the last Begin, with one entry more.
-fn locked_with(locked: bool, act: Act) -> bool
-    ensures { result ≡ (mark (record { compacts = false; locked = locked }) act).locked }
-{
-    match act {
-        Act::Begin { call: _ } => false,
-        Act::Lock => true,
-        _ => locked,
-    }
-}
-
-/// Adds an entry to those that the caller has prepared, which its next step carries. It takes no step.
-pub fn prepare<T: Stands>(c: &mut Caller<T>, act: Act)
-    requires room { length c.old.prepared < 16 }
-    requires may { Always c.old (λ s. may_prepare s (now s c.old) c.old.number act ≡ true) }
-    ensures { c.new ≡ with_prepared c.old act }
-{
-    c.pending = pending_with(c.pending, act);
-    c.compacts = compacts_with(c.compacts, act);
-    c.locked = locked_with(c.locked, act);
-    let entry = Entry {
-        caller: c.number,
-        act,
-    };
-    c.prepared.push(Slip { entry });
-}
-
-// Prepares the Begin of a call, where none is pending.
-pub(crate) fn begin<T: Stands>(c: &mut Caller<T>, call: Call)
-    requires outside { c.old.inside ≡ false }
-    ensures { c.new ≡ begun_with c.old call }
-{
-    if c.pending.is_none() {
-        prepare(c, Act::Begin { call });
-    }
-}
-
-/// One load of the word of callers made, which carries the prepared entries.
-pub fn settle<T: Stands>(heap: &Heap<T>, c: &mut Caller<T>)
-    requires table { c.old.table ≡ heap.now.table }
-    ensures runs { Runs c.old c.new [] }
-    ensures stands { (c.new.inside ≡ c.old.inside) × (c.new.depth ≡ c.old.depth) }
-{
-    look_as::<T, Brand>(&heap.table.shared, &mut c.place, &c.prepared);
-    c.prepared.clear();
-    c.pending = None;
 }
 
 // Whether a caller that finds this gate word has entered.
@@ -155,14 +118,17 @@ fn enters(word: u64, number: u32) -> bool
 fn pass<T: Stands>(heap: &Heap<T>, c: &mut Caller<T>) -> Result<(), Busy>
     requires table { c.old.table ≡ heap.now.table }
     requires outside { c.old.inside ≡ false }
-    requires pending { (call : ACall) × (c.old.pending ≡ Some call) × (is_lock_or_compact call ≡ false) }
-    ensures ok { OnOk result (HasEntered c.old c.new (entry c.old.number Enter ∷ [])) }
-    ensures busy { IfErr result (λ b. HasTurnedBack c.old c.new b.what b.word (entry c.old.number (Blocked whats.Gate b.word) ∷ entry c.old.number Leave ∷ [])) }
+    requires out { c.old.out ≡ [] }
+    requires fresh { c.old.fresh ≡ true }
+    requires call { (call : ACall) × (c.old.call ≡ Some call) × (is_lock_or_compact call ≡ false) }
+    ensures ok { OnOk result (HasEntered c.old c.new (stance c.old) (entry c.old.number Enter ∷ [])) }
+    ensures busy { IfErr result (λ b. HasTurnedBack c.old c.new (stance c.old) b.what b.word (entry c.old.number (Blocked whats.Gate b.word) ∷ entry c.old.number Leave ∷ [])) }
 {
     let top = &heap.table.shared;
     let word = enter_as::<T, Brand>(top, &mut c.place, &c.prepared);
     c.prepared.clear();
-    c.pending = None;
+    c.pending = false;
+    c.fresh = false;
     if enters(word, c.number) {
         c.inside = true;
         return Ok(());
@@ -178,38 +144,48 @@ fn pass<T: Stands>(heap: &Heap<T>, c: &mut Caller<T>) -> Result<(), Busy>
 pub fn enter_now<T: Stands>(heap: &Heap<T>, c: &mut Caller<T>) -> Result<(), Busy>
     requires table { c.old.table ≡ heap.now.table }
     requires outside { c.old.inside ≡ false }
-    requires pending { IfSome c.old.pending (λ call. is_lock_or_compact call ≡ false) }
-    ensures ok { OnOk result (HasEntered c.old c.new (begins c.old Stay ++ entry c.old.number Enter ∷ [])) }
-    ensures busy { IfErr result (λ b. HasTurnedBack c.old c.new b.what b.word (begins c.old Stay ++ entry c.old.number (Blocked whats.Gate b.word) ∷ entry c.old.number Leave ∷ [])) }
+    requires out { c.old.out ≡ [] }
+    requires pending { (c.old.pending && for_some c.old.call is_lock_or_compact) ≡ false }
+    ensures ok { OnOk result (HasEntered c.old c.new (stance (begun_with c.old Stay)) (begins c.old Stay ++ entry c.old.number Enter ∷ [])) }
+    ensures busy { IfErr result (λ b. HasTurnedBack c.old c.new (stance (begun_with c.old Stay)) b.what b.word (begins c.old Stay ++ entry c.old.number (Blocked whats.Gate b.word) ∷ entry c.old.number Leave ∷ [])) }
 {
-    begin(c, Call::Stay);
+    c.check();
+    begin_if_none(c, Call::Stay);
     pass(heap, c)
 }
 
-/// Leaves. A caller that has drawn in this call cannot leave: it would have to have read a bitmap word, which no call
-/// of this crate does.
+/// Leaves. Where the call has searched it has drawn, and where it has drawn it has searched, so that the next search finds
+/// the next draw.
 pub fn leave<T: Stands>(heap: &Heap<T>, c: &mut Caller<T>)
     requires table { c.old.table ≡ heap.now.table }
+    requires whole { c.old.whole ≡ true }
     requires inside { c.old.inside ≡ true }
-    requires drawn { c.old.drawn ≡ false }
-    ensures runs { Runs c.old c.new (entry c.old.number Leave ∷ []) }
-    ensures stands { (c.new.inside ≡ false) × (c.new.depth ≡ c.old.depth) }
+    requires out { c.old.out ≡ [] }
+    requires free { c.old.free ≡ true }
+    requires drawn { c.old.searched ≡ c.old.drawn }
+    ensures { HasLeft c.old c.new (entry c.old.number Leave ∷ []) }
 {
     leave_as::<T, Brand>(&heap.table.shared, &mut c.place, &c.prepared);
     c.prepared.clear();
-    c.pending = None;
+    c.pending = false;
     c.inside = false;
 }
 
-impl<T: Stands> Caller<T> {
-    /// The draw of the search of the call under way.
-    pub fn draw(&mut self) -> Draw
-        requires inside { self.old.inside ≡ true }
-        requires fresh { self.old.drawn ≡ false }
-        ensures draw { Always self.old (λ s. result.value ≡ draw_of s self.old.number ((now s self.old).now.calls self.old.number).searches) }
-        ensures drawn { self.new ≡ record self.old { drawn = true } }
-    {
-        self.drawn = true;
-        self.draws.draw()
-    }
+/// Leaves, and says that no live block has an address: where it lies only locks that were held changed what is there, or no
+/// block can begin.
+pub fn leave_denying<T: Stands>(heap: &Heap<T>, c: &mut Caller<T>, addr: u64)
+    requires table { c.old.table ≡ heap.now.table }
+    requires opening { c.old.opening ≡ heap.now.opening }
+    requires whole { c.old.whole ≡ true }
+    requires inside { c.old.inside ≡ true }
+    requires out { c.old.out ≡ [] }
+    requires free { c.old.free ≡ true }
+    requires drawn { c.old.searched ≡ c.old.drawn }
+    requires none { Always c.old (λ s. MayDeny c.old.opening.limits (now s c.old) c.old.number addr) }
+    ensures { HasLeft c.old c.new (entry c.old.number (NotLive addr) ∷ entry c.old.number Leave ∷ []) }
+{
+    deny_leave_by::<T, Brand, Brand>(&heap.table.shared, &mut c.place, &c.prepared, addr);
+    c.prepared.clear();
+    c.pending = false;
+    c.inside = false;
 }

@@ -1,5 +1,6 @@
 //! The heap that threads share.
 ghost use Rattle.std.specs.Prelude.{◌≡◌};
+ghost use Rattle.heap_model.specs.Limits.{AreValid};
 
 use atomic_table::Table;
 use claim_rule::{HeapRule, View};
@@ -7,11 +8,12 @@ use heap_model::{Limits, Opening, Stands};
 use std::alloc::Global;
 use std::marker::Model;
 
-/// A heap. Contracts see which table it has, and what it was opened with.
+/// A heap. Contracts see which table it has, and what it was opened with. Its fields are open to crates that add steps of their
+/// own.
 #[derive(Drop)]
 pub struct Heap<T: Stands> {
-    pub(crate) table: Table<Option<T>, View, Opening, HeapRule<T>, Global>,
-    pub(crate) opening: Opening,
+    pub table: Table<Option<T>, View, Opening, HeapRule<T>, Global>,
+    pub opening: Opening,
 }
 
 impl<T: Stands> Model for Heap<T> {
@@ -27,7 +29,8 @@ impl<T: Stands> Model for Heap<T> {
 impl<T: Stands> Heap<T> {
     /// The limits that the heap was opened with.
     pub fn limits(&self) -> Limits
-        ensures { result ≡ self.now.opening.limits }
+        ensures limits { result ≡ self.now.opening.limits }
+        ensures valid { AreValid result }
     {
         self.opening.limits
     }

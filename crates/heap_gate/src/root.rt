@@ -7,13 +7,12 @@ ghost use Rattle.claim_rule.specs.Entries.{IsLegalWith, setting_of};
 ghost use Rattle.claim_rule.specs.Places.{word_count};
 ghost use Rattle.heap_model.specs.Layers.{StandsForVs, StandsForBack, StandsForLarge};
 ghost use Rattle.claim_rule.specs.Shown.{AreAllShown};
-ghost use Rattle.heap_gate.specs.Token.{AreTheirs, HaveMet, HasJoined, IsAtRest, is_of, fresh_caller, fresh_root, opened_with};
+ghost use Rattle.heap_gate.specs.Roots.{AreTheirs, HaveMet, HasJoined, IsAtRest, is_of, fresh_caller, fresh_root, opened_with};
 
 use crate::caller::Caller;
 use crate::closed::{Closed, Words};
 use crate::heap::Heap;
 use crate::seats::{agree, count, deal, hear, relayed, take_in, tell};
-use crate::steps::Place;
 use arrayvec::ArrayVec;
 use atomic_table::Table;
 use heap_model::{Limits, Opening, OutOfMemory, Stands};
@@ -22,17 +21,18 @@ use random_pick::Draws;
 use std::alloc::Global;
 use std::marker::{Brand, Model};
 use std::snapshot::Snapshot;
+use step_parts::Seating;
 
 /// What makes callers, and takes them in again. Contracts see what the callers were made with, which have joined, and
 /// the list that the root has seen.
 #[derive(Drop)]
 pub struct Root<T: Stands> {
-    pub(crate) place: Place<T>,
+    pub(crate) place: Seating<T>,
     pub(crate) made: u32,
 }
 
 impl<T: Stands> Model for Root<T> {
-    ghost use Rattle.heap_gate.specs.Token.{RootToken, IsRoot, root_token};
+    ghost use Rattle.heap_gate.specs.Roots.{RootToken, IsRoot, root_token};
 
     ghost Value = { RootToken };
 
@@ -109,11 +109,14 @@ pub fn make_caller<T: Stands>(
         number,
         slot,
         prepared: ArrayVec::new(),
-        pending: None,
-        compacts: false,
+        pending: false,
+        call: None,
+        fresh: false,
         locked: false,
         inside: false,
         depth: 0,
+        whole: true,
+        free: true,
         drawn: false,
         draws: Draws::new(Pcg32::new(seed, stream)),
     }
@@ -134,11 +137,12 @@ pub fn meet<T: Stands>(heap: &Heap<T>, a: &mut Caller<T>, b: &mut Caller<T>)
     agree(&heap.table.shared, &mut a.place);
 }
 
-/// The root takes in a caller that is outside and does not own the heap lock.
+/// The root takes in a caller that is outside, owns no heap lock and holds no layer lock.
 pub fn join<T: Stands>(heap: &Heap<T>, root: &mut Root<T>, c: Caller<T>)
     requires tables { (root.old.table ≡ heap.now.table) × (c.table ≡ heap.now.table) }
     requires openings { (root.old.opening ≡ heap.now.opening) × (c.opening ≡ heap.now.opening) }
     requires outside { c.inside ≡ false }
+    requires out { c.out ≡ [] }
     requires free { c.depth ≡ 0 }
     requires prepared { c.prepared ≡ [] }
     ensures { HasJoined root.old c root.new }

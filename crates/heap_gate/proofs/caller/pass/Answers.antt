@@ -1,105 +1,103 @@
-use Rattle.std.proofs.Common.{◌≡◌, ◌∙◌, ℕ, Bool, List, [], ◌∷◌, true, false, cond, None, Some, refl, sym, subst, ap}
+use Rattle.std.proofs.Common.{◌≡◌, ◌∙◌, ℕ, Bool, List, [], ◌∷◌, true, false, cond, Some, refl, sym, subst, ap}
+use Rattle.random_pick.specs.CallerDraws.{words_of}
+use Rattle.claim_rule.specs.Entries.{entry}
+use Rattle.claim_rule.specs.Plays.{Goes, number_of}
+use Rattle.claim_rule.specs.Rule.{ready_after}
 use Rattle.heap_model.specs.declared.Act.{Act}
 use Rattle.heap_model.specs.declared.Act.TheVariants as acts
-use Rattle.heap_model.specs.declared.Entry.{Entry}
 use Rattle.heap_model.specs.declared.What.TheVariants as whats
-use Rattle.claim_rule.specs.Entries.{entry, slot_at}
-use Rattle.claim_rule.specs.Plays.{Goes}
-use Rattle.claim_rule.proofs.Gate.{one_by}
-use Rattle.random_pick.specs.CallerDraws.{words_of}
-use Rattle.claim_rule.specs.Steps.{MayGoOut}
-use Rattle.claim_rule.specs.Plays.{gate_act, number_of}
-use Rattle.heap_gate.specs.Token.{Token, IsCaller, Runs, HasEntered, HasTurnedBack}
-use Rattle.heap_gate.proofs.Standing.{at_enter}
-use Rattle.heap_gate.proofs.Tokens.{tok, moved, adds_by, by_it, runs, caller, at_after, one_agrees}
-use Rattle.heap_gate.proofs.Turning.{names_another, may_turn, both, at_end, agrees_end}
+use Rattle.heap_gate.specs.Token.{Token, IsAt, outs}
+use Rattle.heap_gate.specs.Seated.{Face, tok}
+
+use Rattle.heap_model.specs.declared.Call.{Call}
+use Rattle.heap_model.specs.declared.Entry.{Entry}
+use Rattle.heap_model.specs.History.{configuration_of}
+use Rattle.claim_rule.specs.Rule.{IsReady}
+use Rattle.claim_rule.specs.Plays.{gate_act}
+use Rattle.claim_rule.specs.Steps.{MayGoOut, MayPass}
+use Rattle.heap_gate.specs.Calls.{HasEntered, HasTurnedBack, stance, may_enter_by}
+use Rattle.heap_gate.proofs.Standing.{pass_of}
+use Rattle.heap_gate.proofs.Tokens.{faced, goes_by, may_by, ready_by}
+use Rattle.heap_gate.proofs.Turning.{may_turn}
+use Rattle.heap_gate.proofs.Acting.{behind_enter, entering, has_entered, behind_turn, turning_back, has_turned_back}
 use Rattle.heap_gate.proofs.caller.pass.Goals as goal
 
--- what the caller does, by whether it has entered
-acts_by : (n word : ℕ) (b : Bool) → Rattle.heap_gate.specs.Token.may_enter_by word n ≡ b → gate_act n word ≡ cond b acts.Enter (acts.Blocked whats.Gate word)
+acts_by : (n word : ℕ) (b : Bool) → may_enter_by word n ≡ b → gate_act n word ≡ cond b acts.Enter (acts.Blocked whats.Gate word)
 acts_by n word b e = ap (λ (b : Bool). cond b acts.Enter (acts.Blocked whats.Gate word)) e
+
+pub enter_as-word-requires-clause-ready : goal.enter_as-word-requires-clause-ready
+enter_as-word-requires-clause-ready g c =
+    let i = c.c.inside in let f : Face = record { number = i.number; prepared = i.prepared.items; pending = i.pending; call = i.call; fresh = i.fresh; locked = i.locked; inside = i.inside; depth = i.depth; whole = i.whole; free = i.free; drawn = i.drawn } in let h = c.c.invariant in let z = i.place.table_id in let me = i.place.me in let stream = words_of i.draws in let v = c.c.view_is in
+    ready_by z me f i.slot stream h (h.even.whole (ap (λ (t : Token). t.inside) v ∙ c.requires.outside) (ap (λ (t : Token). t.out) v ∙ c.requires.out))
+
+pub enter_as-word-requires-clause-may : goal.enter_as-word-requires-clause-may
+enter_as-word-requires-clause-may g c =
+    let i = c.c.inside in let f : Face = record { number = i.number; prepared = i.prepared.items; pending = i.pending; call = i.call; fresh = i.fresh; locked = i.locked; inside = i.inside; depth = i.depth; whole = i.whole; free = i.free; drawn = i.drawn } in let h = c.c.invariant in let z = i.place.table_id in let me = i.place.me in let stream = words_of i.draws in let v = c.c.view_is in
+    let call = ap (λ (t : Token). t.call) v ∙ c.requires.call.1 in
+    let fresh = ap (λ (t : Token). t.fresh) v ∙ c.requires.fresh in
+    let outside = ap (λ (t : Token). t.inside) v ∙ c.requires.outside in
+    may_by z me f i.slot stream h MayPass (λ s q. pass_of (ready_after s me.0 f.prepared) i.number i.call i.depth (outs me.1) i.whole i.free c.requires.call.0 call c.requires.call.2
+        (subst (λ (b : Bool). IsAt (ready_after s me.0 f.prepared) i.number i.call true b i.depth (outs me.1) i.whole i.free) outside
+        (subst (λ (b : Bool). IsAt (ready_after s me.0 f.prepared) i.number i.call b i.inside i.depth (outs me.1) i.whole i.free) fresh (h.at s q))))
 
 pub invariant_of-c : goal.invariant_of-c
 invariant_of-c g c =
-    let i = c.c.inside in let me' = c.enter_as-word.new.place.me in let told = c.enter_as-word.ensures.told in let stream = words_of i.draws in
-    let word = c.enter_as-word.result in
-    let inside : i.inside ≡ false = ap (λ (t : Token). t.inside) c.c.view_is ∙ c.requires.outside in
-    let pending : i.pending ≡ Some c.requires.pending.0 = ap (λ (t : Token). t.pending) c.c.view_is ∙ c.requires.pending.1 in
-    let h = subst (λ b. IsCaller i.place.me (tok i.place.table_id i.place.me i.number i.prepared.items i.pending i.compacts i.locked b i.depth i.drawn) stream) inside c.c.invariant.0 in
+    let i = c.c.inside in let f : Face = record { number = i.number; prepared = i.prepared.items; pending = i.pending; call = i.call; fresh = i.fresh; locked = i.locked; inside = i.inside; depth = i.depth; whole = i.whole; free = i.free; drawn = i.drawn } in let h = c.c.invariant in let z = i.place.table_id in let me = i.place.me in let stream = words_of i.draws in let v = c.c.view_is in
+    let p = c.enter_as-word.new.place in let told = c.enter_as-word.ensures.told in let word = c.enter_as-word.result in
+    let outside = ap (λ (t : Token). t.inside) v ∙ c.requires.outside in
+    let call = ap (λ (t : Token). t.call) v ∙ c.requires.call.1 in
+    let w = h.even.whole outside (ap (λ (t : Token). t.out) v ∙ c.requires.out) in
     let yes = acts_by i.number word true (sym c.enters.ensures ∙ c.if-enters.true) in
-    let go = subst (λ (a : Act). Goes i.number i.place.me.0 me'.0 i.prepared.items (entry i.number a ∷ [])) yes (adds_by i.place.table_id i.place.me i.number i.prepared.items i.pending i.compacts i.locked false i.depth i.drawn stream h me' (λ n. gate_act n word) told.0) in
-    let x = moved i.number i.place.me.0 me'.0 i.prepared.items (entry i.number acts.Enter ∷ []) (by_it i.place.table_id i.place.me i.number i.prepared.items i.pending i.compacts i.locked false i.depth i.drawn stream h) (one_by i.number acts.Enter) go in
-    caller i.place.table_id i.place.me i.number i.prepared.items i.pending i.compacts i.locked false i.depth i.drawn stream h me' (entry i.number acts.Enter ∷ []) x
-    c.enter_as-word.new.place.table_id c.clear.new.self.items i.compacts i.locked true i.depth i.slot c.clear.ensures told.1
-    (at_after i.place.table_id i.place.me i.number i.prepared.items i.pending i.compacts i.locked false i.depth i.drawn stream h me' acts.Enter None true i.depth go x (λ s m. at_enter s m i.number i.pending i.depth c.requires.pending.0 pending))
-    refl (λ _. h.outside refl) c.c.invariant.1
+    let go = subst (λ (a : Act). Goes i.number me.0 p.me.0 f.prepared (entry i.number a ∷ [])) yes (goes_by z me f i.slot stream h p.me.0 (λ n. entry n (gate_act n word) ∷ []) told.0) in
+    (entering z me f i.slot stream h w p.me told.1 told.2 p.table_id c.enter_as-word.ensures.table c.clear.new.self.items c.clear.ensures go outside c.requires.call.0 call).caller
 
 pub returns-then-enters-clause-ok : goal.returns-then-enters-clause-ok
 returns-then-enters-clause-ok g c =
-    let i = c.c.inside in let p = c.enter_as-word.new.place in let told = c.enter_as-word.ensures.told in let stream = words_of i.draws in
-    let word = c.enter_as-word.result in
-    let h = c.c.invariant.0 in
+    let i = c.c.inside in let f : Face = record { number = i.number; prepared = i.prepared.items; pending = i.pending; call = i.call; fresh = i.fresh; locked = i.locked; inside = i.inside; depth = i.depth; whole = i.whole; free = i.free; drawn = i.drawn } in let h = c.c.invariant in let z = i.place.table_id in let me = i.place.me in let stream = words_of i.draws in let v = c.c.view_is in
+    let p = c.enter_as-word.new.place in let told = c.enter_as-word.ensures.told in let word = c.enter_as-word.result in
+    let outside = ap (λ (t : Token). t.inside) v ∙ c.requires.outside in
+    let call = ap (λ (t : Token). t.call) v ∙ c.requires.call.1 in
+    let w = h.even.whole outside (ap (λ (t : Token). t.out) v ∙ c.requires.out) in
     let yes = acts_by i.number word true (sym c.enters.ensures ∙ c.if-enters.true) in
-    let go = subst (λ (a : Act). Goes i.number i.place.me.0 p.me.0 i.prepared.items (entry i.number a ∷ [])) yes (adds_by i.place.table_id i.place.me i.number i.prepared.items i.pending i.compacts i.locked i.inside i.depth i.drawn stream h p.me (λ n. gate_act n word) told.0) in
-    let x = moved i.number i.place.me.0 p.me.0 i.prepared.items (entry i.number acts.Enter ∷ []) (by_it i.place.table_id i.place.me i.number i.prepared.items i.pending i.compacts i.locked i.inside i.depth i.drawn stream h) (one_by i.number acts.Enter) go in
-    let P : Token → Type 0 = λ t. HasEntered t (tok p.table_id p.me i.number c.clear.new.self.items None i.compacts i.locked true i.depth i.drawn) (entry t.number acts.Enter ∷ []) in
-    subst P c.c.view_is (record {
-      runs = runs i.place.table_id i.place.me i.number i.prepared.items i.pending i.compacts i.locked i.inside i.depth i.drawn stream h p.me (entry i.number acts.Enter ∷ []) x
-          p.table_id c.clear.new.self.items i.compacts i.locked true i.depth c.enter_as-word.ensures.table c.clear.ensures
-          (λ s q. one_agrees s i.number i.place.me.0 p.me.0 i.prepared.items acts.Enter (go.goes s q) refl);
-      inside = refl;
-      depth = refl;
-    })
+    let go = subst (λ (a : Act). Goes i.number me.0 p.me.0 f.prepared (entry i.number a ∷ [])) yes (goes_by z me f i.slot stream h p.me.0 (λ n. entry n (gate_act n word) ∷ []) told.0) in
+    subst (λ (t : Token). HasEntered t (tok p.table_id p.me (faced z me f i.slot stream h (behind_enter z me f i.slot stream h w p.me told.1 told.2 p.table_id c.enter_as-word.ensures.table c.clear.new.self.items c.clear.ensures go outside c.requires.call.0 call) c.clear.new.self.items)) (stance t) (entry t.number acts.Enter ∷ [])) v
+    (has_entered z me f i.slot stream h w p.me told.1 told.2 p.table_id c.enter_as-word.ensures.table c.clear.new.self.items c.clear.ensures go outside c.requires.call.0 call)
 
 pub leave_as-requires-clause-may : goal.leave_as-requires-clause-may
 leave_as-requires-clause-may g c =
-    let i = c.c.inside in let u = c.enter_as-word.new.place.me in let told = c.enter_as-word.ensures.told in let stream = words_of i.draws in
-    let word = c.enter_as-word.result in
-    let inside : i.inside ≡ false = ap (λ (t : Token). t.inside) c.c.view_is ∙ c.requires.outside in
-    let pending : i.pending ≡ Some c.requires.pending.0 = ap (λ (t : Token). t.pending) c.c.view_is ∙ c.requires.pending.1 in
-    let h = subst (λ b. IsCaller i.place.me (tok i.place.table_id i.place.me i.number i.prepared.items i.pending i.compacts i.locked b i.depth i.drawn) stream) inside c.c.invariant.0 in
-    let no = acts_by i.number word false (sym c.enters.ensures ∙ c.if-enters.false) in
-    let go = subst (λ (a : Act). Goes i.number i.place.me.0 u.0 i.prepared.items (entry i.number a ∷ [])) no (adds_by i.place.table_id i.place.me i.number i.prepared.items i.pending i.compacts i.locked false i.depth i.drawn stream h u (λ n. gate_act n word) told.0) in
-    λ s q. subst (MayGoOut (Rattle.heap_model.specs.History.configuration_of s u.0.seen)) (sym (ap number_of (go.role ∙ h.ready.role))) (may_turn i.place.table_id i.place.me i.number i.prepared.items i.pending i.compacts i.locked i.depth i.drawn stream h c.requires.pending.0 pending c.requires.pending.2 word u go s q)
+    let i = c.c.inside in let f : Face = record { number = i.number; prepared = i.prepared.items; pending = i.pending; call = i.call; fresh = i.fresh; locked = i.locked; inside = i.inside; depth = i.depth; whole = i.whole; free = i.free; drawn = i.drawn } in let h = c.c.invariant in let z = i.place.table_id in let me = i.place.me in let stream = words_of i.draws in let v = c.c.view_is in
+    let p = c.enter_as-word.new.place in let told = c.enter_as-word.ensures.told in let word = c.enter_as-word.result in
+    let outside = ap (λ (t : Token). t.inside) v ∙ c.requires.outside in
+    let call = ap (λ (t : Token). t.call) v ∙ c.requires.call.1 in
+    let w = h.even.whole outside (ap (λ (t : Token). t.out) v ∙ c.requires.out) in
+    let another = acts_by i.number word false (sym c.enters.ensures ∙ c.if-enters.false) in
+    let go = subst (λ (a : Act). Goes i.number me.0 p.me.0 f.prepared (entry i.number a ∷ [])) another (goes_by z me f i.slot stream h p.me.0 (λ n. entry n (gate_act n word) ∷ []) told.0) in
+    λ s q. subst (MayGoOut (configuration_of s p.me.0.seen)) (sym (ap number_of (go.role ∙ h.role))) (may_turn z me f i.slot stream h c.requires.call.0 outside call c.requires.call.2 word p.me.0 go s q)
 
 pub invariant_of-c-2 : goal.invariant_of-c-2
 invariant_of-c-2 g c =
-    let i = c.c.inside in let u = c.enter_as-word.new.place.me in let told = c.enter_as-word.ensures.told in let stream = words_of i.draws in
-    let v = c.leave_as.new.place.me in let then = c.leave_as.ensures.told.1 in
-    let word = c.enter_as-word.result in
-    let inside : i.inside ≡ false = ap (λ (t : Token). t.inside) c.c.view_is ∙ c.requires.outside in
-    let pending : i.pending ≡ Some c.requires.pending.0 = ap (λ (t : Token). t.pending) c.c.view_is ∙ c.requires.pending.1 in
-    let h = subst (λ b. IsCaller i.place.me (tok i.place.table_id i.place.me i.number i.prepared.items i.pending i.compacts i.locked b i.depth i.drawn) stream) inside c.c.invariant.0 in
-    let no = acts_by i.number word false (sym c.enters.ensures ∙ c.if-enters.false) in
-    let go = subst (λ (a : Act). Goes i.number i.place.me.0 u.0 i.prepared.items (entry i.number a ∷ [])) no (adds_by i.place.table_id i.place.me i.number i.prepared.items i.pending i.compacts i.locked false i.depth i.drawn stream h u (λ n. gate_act n word) told.0) in
-    let go' = subst (λ (n : ℕ). Goes n u.0 v.0 [] (entry n acts.Leave ∷ [])) (ap number_of (go.role ∙ h.ready.role)) then.0 in
-    subst (λ b. IsCaller v (tok c.leave_as.new.place.table_id v i.number c.clear.new.self.items None i.compacts i.locked b i.depth i.drawn) stream × (slot_at v.0.roll i.number ≡ i.slot)) (sym inside)
-    (caller i.place.table_id i.place.me i.number i.prepared.items i.pending i.compacts i.locked false i.depth i.drawn stream h v (entry i.number (acts.Blocked whats.Gate word) ∷ entry i.number acts.Leave ∷ [])
-    (both i.place.table_id i.place.me i.number i.prepared.items i.pending i.compacts i.locked i.depth i.drawn stream h c.requires.pending.0 pending c.requires.pending.2 word u go v go')
-    c.leave_as.new.place.table_id c.clear.new.self.items i.compacts i.locked false i.depth i.slot c.clear.ensures (then.1 ∙ told.1)
-    (at_end i.place.table_id i.place.me i.number i.prepared.items i.pending i.compacts i.locked i.depth i.drawn stream h c.requires.pending.0 pending c.requires.pending.2 word u go v go')
-    refl h.outside c.c.invariant.1)
+    let i = c.c.inside in let f : Face = record { number = i.number; prepared = i.prepared.items; pending = i.pending; call = i.call; fresh = i.fresh; locked = i.locked; inside = i.inside; depth = i.depth; whole = i.whole; free = i.free; drawn = i.drawn } in let h = c.c.invariant in let z = i.place.table_id in let me = i.place.me in let stream = words_of i.draws in let v = c.c.view_is in
+    let p = c.enter_as-word.new.place in let told = c.enter_as-word.ensures.told in let word = c.enter_as-word.result in
+    let outside = ap (λ (t : Token). t.inside) v ∙ c.requires.outside in
+    let call = ap (λ (t : Token). t.call) v ∙ c.requires.call.1 in
+    let w = h.even.whole outside (ap (λ (t : Token). t.out) v ∙ c.requires.out) in
+    let another = acts_by i.number word false (sym c.enters.ensures ∙ c.if-enters.false) in
+    let go = subst (λ (a : Act). Goes i.number me.0 p.me.0 f.prepared (entry i.number a ∷ [])) another (goes_by z me f i.slot stream h p.me.0 (λ n. entry n (gate_act n word) ∷ []) told.0) in
+    let q = c.leave_as.new.place in let then = c.leave_as.ensures.told.1 in
+    let go' = subst (λ (n : ℕ). Goes n p.me.0 q.me.0 [] (entry n acts.Leave ∷ [])) (ap number_of (go.role ∙ h.role)) then.0 in
+    (turning_back z me f i.slot stream h w c.requires.call.0 outside call c.requires.call.2 word p.me go q.me go' (then.1 ∙ told.1) (then.2 ∙ told.2) q.table_id (c.leave_as.ensures.table ∙ c.enter_as-word.ensures.table) c.clear.new.self.items c.clear.ensures).caller
 
 pub returns-clause-busy : goal.returns-clause-busy
 returns-clause-busy g c =
-    let i = c.c.inside in let u = c.enter_as-word.new.place.me in let told = c.enter_as-word.ensures.told in let stream = words_of i.draws in
-    let p = c.leave_as.new.place in let v = c.leave_as.new.place.me in let then = c.leave_as.ensures.told.1 in
-    let word = c.enter_as-word.result in
-    let inside : i.inside ≡ false = ap (λ (t : Token). t.inside) c.c.view_is ∙ c.requires.outside in
-    let pending : i.pending ≡ Some c.requires.pending.0 = ap (λ (t : Token). t.pending) c.c.view_is ∙ c.requires.pending.1 in
-    let h = subst (λ b. IsCaller i.place.me (tok i.place.table_id i.place.me i.number i.prepared.items i.pending i.compacts i.locked b i.depth i.drawn) stream) inside c.c.invariant.0 in
-    let no = acts_by i.number word false (sym c.enters.ensures ∙ c.if-enters.false) in
-    let go = subst (λ (a : Act). Goes i.number i.place.me.0 u.0 i.prepared.items (entry i.number a ∷ [])) no (adds_by i.place.table_id i.place.me i.number i.prepared.items i.pending i.compacts i.locked false i.depth i.drawn stream h u (λ n. gate_act n word) told.0) in
-    let go' = subst (λ (n : ℕ). Goes n u.0 v.0 [] (entry n acts.Leave ∷ [])) (ap number_of (go.role ∙ h.ready.role)) then.0 in
-    let ds : List Entry = entry i.number (acts.Blocked whats.Gate word) ∷ entry i.number acts.Leave ∷ [] in
-    let P : Token → Type 0 = λ t. HasTurnedBack t (tok p.table_id v i.number c.clear.new.self.items None i.compacts i.locked i.inside i.depth i.drawn) whats.Gate word (entry t.number (acts.Blocked whats.Gate word) ∷ entry t.number acts.Leave ∷ []) in
-    let r = runs i.place.table_id i.place.me i.number i.prepared.items i.pending i.compacts i.locked false i.depth i.drawn stream h v ds (both i.place.table_id i.place.me i.number i.prepared.items i.pending i.compacts i.locked i.depth i.drawn stream h c.requires.pending.0 pending c.requires.pending.2 word u go v go')
-    p.table_id c.clear.new.self.items i.compacts i.locked false i.depth (c.leave_as.ensures.table ∙ c.enter_as-word.ensures.table) c.clear.ensures
-    (agrees_end i.place.table_id i.place.me i.number i.prepared.items i.pending i.compacts i.locked i.depth i.drawn stream h c.requires.pending.0 pending c.requires.pending.2 word u go v go') in
-    subst P c.c.view_is (record {
-      gate = refl;
-      names = names_another word i.number (sym c.enters.ensures ∙ c.if-enters.false);
-      runs = subst (λ b. Runs (tok i.place.table_id i.place.me i.number i.prepared.items i.pending i.compacts i.locked b i.depth i.drawn) (tok p.table_id v i.number c.clear.new.self.items None i.compacts i.locked b i.depth i.drawn) ds) (sym inside) r;
-      inside = inside;
-      depth = refl;
-    })
+    let i = c.c.inside in let f : Face = record { number = i.number; prepared = i.prepared.items; pending = i.pending; call = i.call; fresh = i.fresh; locked = i.locked; inside = i.inside; depth = i.depth; whole = i.whole; free = i.free; drawn = i.drawn } in let h = c.c.invariant in let z = i.place.table_id in let me = i.place.me in let stream = words_of i.draws in let v = c.c.view_is in
+    let p = c.enter_as-word.new.place in let told = c.enter_as-word.ensures.told in let word = c.enter_as-word.result in
+    let outside = ap (λ (t : Token). t.inside) v ∙ c.requires.outside in
+    let call = ap (λ (t : Token). t.call) v ∙ c.requires.call.1 in
+    let w = h.even.whole outside (ap (λ (t : Token). t.out) v ∙ c.requires.out) in
+    let another = acts_by i.number word false (sym c.enters.ensures ∙ c.if-enters.false) in
+    let go = subst (λ (a : Act). Goes i.number me.0 p.me.0 f.prepared (entry i.number a ∷ [])) another (goes_by z me f i.slot stream h p.me.0 (λ n. entry n (gate_act n word) ∷ []) told.0) in
+    let q = c.leave_as.new.place in let then = c.leave_as.ensures.told.1 in
+    let go' = subst (λ (n : ℕ). Goes n p.me.0 q.me.0 [] (entry n acts.Leave ∷ [])) (ap number_of (go.role ∙ h.role)) then.0 in
+    subst (λ (t : Token). HasTurnedBack t (tok q.table_id q.me (faced z me f i.slot stream h (behind_turn z me f i.slot stream h w c.requires.call.0 outside call c.requires.call.2 word p.me go q.me go' (then.1 ∙ told.1) (then.2 ∙ told.2) q.table_id (c.leave_as.ensures.table ∙ c.enter_as-word.ensures.table) c.clear.new.self.items c.clear.ensures) c.clear.new.self.items)) (stance t) whats.Gate word (entry t.number (acts.Blocked whats.Gate word) ∷ entry t.number acts.Leave ∷ [])) v
+    (has_turned_back z me f i.slot stream h w c.requires.call.0 outside call c.requires.call.2 word p.me go q.me go' (then.1 ∙ told.1) (then.2 ∙ told.2) q.table_id (c.leave_as.ensures.table ∙ c.enter_as-word.ensures.table) c.clear.new.self.items c.clear.ensures
+    (sym c.enters.ensures ∙ c.if-enters.false))

@@ -8,7 +8,8 @@ use Rattle.heap_model.specs.declared.Opening.{Opening}
 use Rattle.claim_rule.specs.Entries.{IsLegalWith, setting_of}
 use Rattle.claim_rule.specs.Shown.{AreAllShown}
 use Rattle.heap_model.specs.Layers.{StandsForVs, StandsForBack, StandsForLarge}
-use Rattle.heap_gate.specs.Token.{RootToken, HeapToken, AreTheirs, IsAtRest, is_of, joined_of, roll_in}
+use Rattle.heap_gate.specs.Token.{HeapToken}
+use Rattle.heap_gate.specs.Roots.{RootToken, AreTheirs, IsAtRest, is_of, joined_of, roll_in}
 use Rattle.heap_gate.proofs.Ending.{ended, of_joined}
 use Rattle.heap_gate.proofs.root.close_table.Goals as goal
 

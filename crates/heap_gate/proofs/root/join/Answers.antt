@@ -1,36 +1,56 @@
-use Rattle.std.proofs.Common.{◌≡◌, ◌∙◌, ℕ, Bool, List, [], false, refl, sym, subst, ap, Option}
+use Rattle.std.proofs.Common.{◌≡◌, ◌∙◌, ℕ, arith, Bool, List, [], ◌∷◌, true, false, refl, sym, subst, ap, Option}
 use Rattle.heap_model.specs.declared.Entry.{Entry}
 use Rattle.claim_rule.specs.Entries.{IsSettingOf}
 use mathlib.Core.Option.{none}
 use Rattle.atomic_table.specs.Table.{Step, step}
 use Rattle.heap_model.specs.declared.Opening.{Opening}
 use Rattle.heap_model.specs.History.{configuration_after, configuration_of}
-use Rattle.heap_gate.specs.Token.{Token, RootToken, IsRoot, IsAt, HasJoined, root_token}
-use Rattle.heap_gate.proofs.Tokens.{tok}
+use Rattle.heap_gate.specs.Token.{HeapToken, Token, IsAt, outs}
+use Rattle.heap_gate.specs.Seated.{Face, tok}
+use Rattle.heap_gate.specs.Roots.{RootToken, IsRoot, HasJoined, root_token}
 use Rattle.heap_gate.proofs.Meeting.{root_taken, root_joined, idle_of}
 use Rattle.heap_gate.proofs.root.join.Goals as goal
+
+no_outs : {T : Type 0} (xs : List (ℕ × Option T)) → outs xs ≡ [] → xs ≡ []
+no_outs [] e = refl
+no_outs (x ∷ xs) e = absurd (let no : ⊥ = cc in no)
+
+pub take_in-requires-clause-table : goal.take_in-requires-clause-table
+take_in-requires-clause-table g c =
+    let i = c.c.inside in let hv = c.heap.view_is in let words = c.heap.invariant.words in
+    (
+      ap (λ (t : RootToken). t.table) c.root.view_is ∙ (c.requires.tables.0 ∙ ap (λ (t : HeapToken). t.table) (sym hv)),
+      ap (λ (t : Token). t.table) c.c.view_is ∙ (c.requires.tables.1 ∙ ap (λ (t : HeapToken). t.table) (sym hv)),
+      no_outs i.place.me.1 (ap (λ (t : Token). t.out) c.c.view_is ∙ c.requires.out),
+      omega arith,
+    )
 
 pub hear-requires-clause-root : goal.hear-requires-clause-root
 hear-requires-clause-root g c =
     let r = c.root.inside in let i = c.c.inside in
-    (_, root_taken r.place.me c.take_in.new.place.me i.place.me.0 r.made i.number c.root.invariant c.c.invariant.0.ready.role c.take_in.ensures.1)
+    (_, root_taken r.place.me c.take_in.new.place.me i.place.me.0 r.made i.number c.root.invariant c.c.invariant.role c.take_in.ensures.1)
 
-both : (g : _) (c : goal.After-hear g) → let r = c.root.inside in let i = c.c.inside in IsRoot c.hear.new.place.me r.made × HasJoined (root_token r.place.table_id r.place.me) (tok i.place.table_id i.place.me i.number i.prepared.items i.pending i.compacts i.locked i.inside i.depth i.drawn) (root_token c.hear.new.place.table_id c.hear.new.place.me)
+both : (g : _) (c : goal.After-hear g) → let r = c.root.inside in let i = c.c.inside in IsRoot c.hear.new.place.me r.made × HasJoined (root_token r.place.table_id r.place.me) (tok i.place.table_id i.place.me (record { number = i.number; prepared = i.prepared.items; pending = i.pending; call = i.call; fresh = i.fresh; locked = i.locked; inside = i.inside; depth = i.depth; whole = i.whole; free = i.free; drawn = i.drawn })) (root_token c.hear.new.place.table_id c.hear.new.place.me)
 both g c =
-    let r = c.root.inside in let i = c.c.inside in
+    let r = c.root.inside in let i = c.c.inside in let h = c.c.invariant in let v = c.c.view_is in
+    let f : Face = record { number = i.number; prepared = i.prepared.items; pending = i.pending; call = i.call; fresh = i.fresh; locked = i.locked; inside = i.inside; depth = i.depth; whole = i.whole; free = i.free; drawn = i.drawn } in
     let st : Step (Option g.row.T.Denot) = step c.heap.inside.table.shared.table_id.slots 0 0 0 none in
-    let inside : i.inside ≡ false = ap (λ (t : Token). t.inside) c.c.view_is ∙ c.requires.outside in
-    let depth : i.depth ≡ 0 = ap (λ (t : Token). t.depth) c.c.view_is ∙ c.requires.free in
-    let prepared : i.prepared.items ≡ [] = ap (λ (t : Token). t.prepared) c.c.view_is ∙ c.requires.prepared in
-    let opening : r.place.me.0.opening ≡ i.place.me.0.opening = ap (λ (t : RootToken). t.opening) c.root.view_is ∙ (c.requires.openings.0 ∙ (sym c.requires.openings.1 ∙ ap (λ (t : Token). t.opening) (sym c.c.view_is))) in
-    root_joined r.place.table_id c.hear.new.place.table_id (tok i.place.table_id i.place.me i.number i.prepared.items i.pending i.compacts i.locked i.inside i.depth i.drawn) r.place.me c.take_in.new.place.me c.hear.new.place.me i.place.me.0 r.made c.hear.ensures.told.0 st
-    (c.hear.ensures.table ∙ c.take_in.ensures.0) c.root.invariant c.c.invariant.0.ready.role refl refl c.take_in.ensures.1 c.hear.ensures.told.1
+    let inside : i.inside ≡ false = ap (λ (t : Token). t.inside) v ∙ c.requires.outside in
+    let depth : i.depth ≡ 0 = ap (λ (t : Token). t.depth) v ∙ c.requires.free in
+    let out : outs i.place.me.1 ≡ [] = ap (λ (t : Token). t.out) v ∙ c.requires.out in
+    let prepared : i.prepared.items ≡ [] = ap (λ (t : Token). t.prepared) v ∙ c.requires.prepared in
+    let free : i.free ≡ true = h.even.rests inside in
+    let opening : r.place.me.0.opening ≡ i.place.me.0.opening = ap (λ (t : RootToken). t.opening) c.root.view_is ∙ (c.requires.openings.0 ∙ (sym c.requires.openings.1 ∙ ap (λ (t : Token). t.opening) (sym v))) in
+    root_joined r.place.table_id c.hear.new.place.table_id (tok i.place.table_id i.place.me f) r.place.me c.take_in.new.place.me c.hear.new.place.me i.place.me.0 r.made c.hear.ensures.told.0 st
+    (c.hear.ensures.table ∙ c.take_in.ensures.0) c.root.invariant h.role refl refl c.take_in.ensures.1 c.hear.ensures.told.1
     (λ s q.
-    let at = c.c.invariant.0.at s (subst (λ (o : Opening). IsSettingOf o i.place.me.0.roll s) opening q) in
-    idle_of (configuration_of s i.place.me.0.seen) i.number i.pending
-    (subst (λ (x : List Entry). IsAt (configuration_after s (configuration_of s i.place.me.0.seen) x) i.number i.pending false 0) prepared
-    (subst (λ (d : ℕ). IsAt (configuration_after s (configuration_of s i.place.me.0.seen) i.prepared.items) i.number i.pending false d) depth
-    (subst (λ (b : Bool). IsAt (configuration_after s (configuration_of s i.place.me.0.seen) i.prepared.items) i.number i.pending b i.depth) inside at))))
+    let at = h.at s (subst (λ (o : Opening). IsSettingOf o i.place.me.0.roll s) opening q) in
+    idle_of (configuration_of s i.place.me.0.seen) i.number i.call i.fresh i.whole
+    (subst (λ (x : List Entry). IsAt (configuration_after s (configuration_of s i.place.me.0.seen) x) i.number i.call i.fresh false 0 [] i.whole true) prepared
+    (subst (λ (d : ℕ). IsAt (configuration_after s (configuration_of s i.place.me.0.seen) i.prepared.items) i.number i.call i.fresh false d [] i.whole true) depth
+    (subst (λ (o : List ℕ). IsAt (configuration_after s (configuration_of s i.place.me.0.seen) i.prepared.items) i.number i.call i.fresh false i.depth o i.whole true) out
+    (subst (λ (b : Bool). IsAt (configuration_after s (configuration_of s i.place.me.0.seen) i.prepared.items) i.number i.call i.fresh false i.depth (outs i.place.me.1) i.whole b) free
+    (subst (λ (b : Bool). IsAt (configuration_after s (configuration_of s i.place.me.0.seen) i.prepared.items) i.number i.call i.fresh b i.depth (outs i.place.me.1) i.whole i.free) inside at))))))
 
 pub invariant_of-root : goal.invariant_of-root
 invariant_of-root g c = (both g c).0

@@ -1,4 +1,4 @@
-use Rattle.std.proofs.Common.{ℕ, ◌==◌, subst, sym}
+use Rattle.std.proofs.Common.{arith, ℕ, ◌==◌, subst, sym}
 use mathlib.Core.Option.{none}
 use prog.Atomic.{either}
 use Rattle.atomic_table.specs.Table.{step, Allows}
@@ -12,4 +12,5 @@ compare_exchange-requires g c =
     let p = c.args.place.now in
     let slots = c.args.top.now.table_id.slots in
     let P : ℕ → Type 0 = λ t. Allows (IsRuled g.T.Stands.stands c.args.top.now.key) slots p.id p.me 1 (λ x. either (x == 0) t x) (locked g.E.Carried.entries (step slots 1 0 t none) p.me) in
-    (c.requires.table.0, c.requires.table.1, subst P (sym c.requires.tag) (locks g.T.Stands.stands c.args.top.now.key slots p.id (number_of p.me.0.role) p.me g.E.Carried.entries c.requires.ready c.requires.may))
+    let w = c.requires.table.1 in
+    (c.requires.table.0, omega arith, subst P (sym c.requires.tag) (locks g.T.Stands.stands c.args.top.now.key slots p.id (number_of p.me.0.role) p.me g.E.Carried.entries c.requires.ready c.requires.may))

@@ -1,5 +1,5 @@
 use Rattle.std.proofs.Common.{false, refl, subst}
-use Rattle.heap_gate.specs.Token.{IsRefusedLock}
+use Rattle.heap_gate.specs.Calls.{IsRefusedLock}
 use Rattle.heap_gate.proofs.Counting.{has_locked, has_missed, has_given, goes_on_trans}
 use Rattle.heap_gate.proofs.tests.hold.Goals as goal
 

@@ -1,0 +1,43 @@
+use Rattle.std.proofs.Common.{◌≡◌, ◌∙◌, ℕ, ◌+◌, ◌<◌, [], ◌∷◌, true, refl, sym, subst, ap, arith}
+use Rattle.random_pick.specs.CallerDraws.{words_of}
+use Rattle.heap_model.specs.declared.Act.TheVariants as acts
+use Rattle.heap_model.specs.declared.Opening.{Opening}
+use Rattle.claim_rule.specs.Entries.{entry}
+use Rattle.claim_rule.specs.Places.{data_at, data_count}
+use Rattle.heap_gate.specs.Token.{HeapToken, Token}
+use Rattle.heap_gate.specs.Seated.{Face, tok}
+use Rattle.heap_gate.specs.Calls.{Runs, Stands, stance}
+use Rattle.heap_gate.proofs.Tokens.{as_was, faced, goes_by, ready_by}
+use Rattle.data_words.proofs.Loading.{inside_by, storing, stored_runs}
+use Rattle.data_words.proofs.store.Goals as goal
+
+pub store_by-requires-clause-may : goal.store_by-requires-clause-may
+store_by-requires-clause-may g c =
+    let i = c.c.inside in let f : Face = record { number = i.number; prepared = i.prepared.items; pending = i.pending; call = i.call; fresh = i.fresh; locked = i.locked; inside = i.inside; depth = i.depth; whole = i.whole; free = i.free; drawn = i.drawn } in let h = c.c.invariant in let z = i.place.table_id in let me = i.place.me in let stream = words_of i.draws in let v = c.c.view_is in
+    inside_by z me f i.slot stream h (ap (λ (t : Token). t.whole) v ∙ c.requires.whole) (ap (λ (t : Token). t.inside) v ∙ c.requires.inside)
+
+pub invariant_of-c : goal.invariant_of-c
+invariant_of-c g c =
+    let i = c.c.inside in let f : Face = record { number = i.number; prepared = i.prepared.items; pending = i.pending; call = i.call; fresh = i.fresh; locked = i.locked; inside = i.inside; depth = i.depth; whole = i.whole; free = i.free; drawn = i.drawn } in let h = c.c.invariant in let z = i.place.table_id in let me = i.place.me in let stream = words_of i.draws in let v = c.c.view_is in
+    let p = c.store_by.new.place in let told = c.store_by.ensures.told in let word = c.args.word in let value = c.args.value in
+    let w = ap (λ (t : Token). t.whole) v ∙ c.requires.whole in
+    let go = goes_by z me f i.slot stream h p.me.0 (λ n. entry n (acts.Store word value) ∷ []) told.adds in
+    (storing z me f i.slot stream h w p.me told.slot told.owes p.table_id c.store_by.ensures.table c.clear.new.self.items c.clear.ensures word value go).caller
+
+pub returns-clause-runs : goal.returns-clause-runs
+returns-clause-runs g c =
+    let i = c.c.inside in let f : Face = record { number = i.number; prepared = i.prepared.items; pending = i.pending; call = i.call; fresh = i.fresh; locked = i.locked; inside = i.inside; depth = i.depth; whole = i.whole; free = i.free; drawn = i.drawn } in let h = c.c.invariant in let z = i.place.table_id in let me = i.place.me in let stream = words_of i.draws in let v = c.c.view_is in
+    let p = c.store_by.new.place in let told = c.store_by.ensures.told in let word = c.args.word in let value = c.args.value in
+    let w = ap (λ (t : Token). t.whole) v ∙ c.requires.whole in
+    let go = goes_by z me f i.slot stream h p.me.0 (λ n. entry n (acts.Store word value) ∷ []) told.adds in
+    subst (λ (t : Token). Runs t (tok p.table_id p.me (faced z me f i.slot stream h (as_was z me f i.slot stream h) c.clear.new.self.items)) (entry t.number (acts.Store word value) ∷ [])) v
+    (stored_runs z me f i.slot stream h w p.me told.slot told.owes p.table_id c.store_by.ensures.table c.clear.new.self.items c.clear.ensures word value go)
+
+pub returns-clause-stands : goal.returns-clause-stands
+returns-clause-stands g c =
+    let i = c.c.inside in let f : Face = record { number = i.number; prepared = i.prepared.items; pending = i.pending; call = i.call; fresh = i.fresh; locked = i.locked; inside = i.inside; depth = i.depth; whole = i.whole; free = i.free; drawn = i.drawn } in let h = c.c.invariant in let z = i.place.table_id in let me = i.place.me in let stream = words_of i.draws in let v = c.c.view_is in
+    let p = c.store_by.new.place in let told = c.store_by.ensures.told in let word = c.args.word in let value = c.args.value in
+    let w = ap (λ (t : Token). t.whole) v ∙ c.requires.whole in
+    let go = goes_by z me f i.slot stream h p.me.0 (λ n. entry n (acts.Store word value) ∷ []) told.adds in
+    subst (λ (t : Token). Stands (tok p.table_id p.me (faced z me f i.slot stream h (as_was z me f i.slot stream h) c.clear.new.self.items)) (stance t)) v
+    (storing z me f i.slot stream h w p.me told.slot told.owes p.table_id c.store_by.ensures.table c.clear.new.self.items c.clear.ensures word value go).stands

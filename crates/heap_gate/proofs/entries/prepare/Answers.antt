@@ -1,0 +1,42 @@
+use Rattle.std.proofs.Common.{◌≡◌, ◌<◌, ◌∙◌, Bool, List, true, sym, subst, ap, Option, length}
+use Rattle.heap_model.specs.declared.Call.{Call}
+use Rattle.heap_model.specs.declared.Entry.{Entry}
+use Rattle.random_pick.specs.CallerDraws.{words_of}
+use Rattle.claim_rule.specs.Entries.{may_prepare}
+use Rattle.heap_gate.specs.Token.{Token, IsCaller, Always, now}
+use Rattle.heap_gate.specs.Seated.{Face, tok}
+use Rattle.heap_gate.specs.Calls.{with_prepared}
+use Rattle.heap_gate.proofs.Preparation.{more, prepared_more, prepared_is}
+use Rattle.heap_gate.proofs.entries.prepare.Goals as goal
+
+-- the face as the code leaves it
+faced : (g : _) (c : goal.After-push g) → (let i = c.c.inside in let f : Face = record { number = i.number; prepared = i.prepared.items; pending = i.pending; call = i.call; fresh = i.fresh; locked = i.locked; inside = i.inside; depth = i.depth; whole = i.whole; free = i.free; drawn = i.drawn } in more i.place.table_id i.place.me f i.slot (words_of i.draws) c.c.invariant c.args.act)
+    ≡ record { number = c.c.inside.number; prepared = c.push.new.self.items; pending = c.set_by_begin-c-inside.result; call = c.call_of-c-inside.result; fresh = c.set_by_begin-c-inside-2.result; locked = c.unset_by_begin-c-inside.result; inside = c.c.inside.inside; depth = c.c.inside.depth; whole = c.ends-c-inside.result; free = c.is_free-c-inside.result; drawn = c.unset_by_begin-c-inside-2.result }
+faced g c = λ j. record {
+  number = c.c.inside.number;
+  prepared = sym c.push.ensures.items j;
+  pending = sym c.set_by_begin-c-inside.ensures j;
+  call = sym c.call_of-c-inside.ensures j;
+  fresh = sym c.set_by_begin-c-inside-2.ensures j;
+  locked = sym c.unset_by_begin-c-inside.ensures j;
+  inside = c.c.inside.inside;
+  depth = c.c.inside.depth;
+  whole = sym c.ends-c-inside.ensures j;
+  free = sym c.is_free-c-inside.ensures j;
+  drawn = sym c.unset_by_begin-c-inside-2.ensures j;
+}
+
+pub invariant_of-c : goal.invariant_of-c
+invariant_of-c g c =
+    let i = c.c.inside in let f : Face = record { number = i.number; prepared = i.prepared.items; pending = i.pending; call = i.call; fresh = i.fresh; locked = i.locked; inside = i.inside; depth = i.depth; whole = i.whole; free = i.free; drawn = i.drawn } in let h = c.c.invariant in let z = i.place.table_id in let me = i.place.me in let stream = words_of i.draws in let v = c.c.view_is in
+    let act = c.args.act in
+    let room = subst (λ (t : Token). length t.prepared < 16) (sym v) c.requires.room in
+    let may = subst (λ (t : Token). Always t (λ s. may_prepare s (now s t) t.number act ≡ true)) (sym v) c.requires.may in
+    subst (λ (x : Face). IsCaller me (tok z me x) i.slot stream) (faced g c) (prepared_more z me f i.slot stream h act may room)
+
+pub returns : goal.returns
+returns g c =
+    let i = c.c.inside in let f : Face = record { number = i.number; prepared = i.prepared.items; pending = i.pending; call = i.call; fresh = i.fresh; locked = i.locked; inside = i.inside; depth = i.depth; whole = i.whole; free = i.free; drawn = i.drawn } in let h = c.c.invariant in let z = i.place.table_id in let me = i.place.me in let stream = words_of i.draws in let v = c.c.view_is in
+    let act = c.args.act in
+    let may = subst (λ (t : Token). Always t (λ s. may_prepare s (now s t) t.number act ≡ true)) (sym v) c.requires.may in
+    ap (λ (x : Face). tok z me x) (sym (faced g c)) ∙ (prepared_is z me f i.slot stream h act may ∙ ap (λ (t : Token). with_prepared t act) v)

@@ -1,4 +1,0 @@
-use Rattle.heap_gate.proofs.lock.give.Given as goal
-
-abbrev pub ghosts-unlock_as : goal.ghosts-unlock_as
-ghosts-unlock_as g a = record { entries = a._prepared.now.items }

@@ -1,0 +1,69 @@
+use Rattle.std.proofs.Common.{◌≡◌, ◌∙◌, ℕ, Bool, List, [], ◌∷◌, true, false, cond, Some, refl, sym, subst, ap}
+use Rattle.random_pick.specs.CallerDraws.{words_of}
+use Rattle.claim_rule.specs.Entries.{entry}
+use Rattle.claim_rule.specs.Plays.{Goes, number_of}
+use Rattle.claim_rule.specs.Rule.{ready_after}
+use Rattle.heap_model.specs.declared.Act.{Act}
+use Rattle.heap_model.specs.declared.Act.TheVariants as acts
+use Rattle.heap_model.specs.declared.What.TheVariants as whats
+use Rattle.heap_gate.specs.Token.{Token, IsAt, outs}
+use Rattle.heap_gate.specs.Seated.{Face, tok}
+
+use Rattle.std.specs.Prelude.{not, ◌||◌, ◌==◌}
+use Rattle.heap_model.specs.declared.Opening.{Opening}
+use Rattle.heap_model.specs.Legal.{leaves_whole}
+use Rattle.claim_rule.specs.Home.{slot_of, Tells}
+use Rattle.lock_steps.specs.Locks.{MayGiveBack}
+use Rattle.look_steps.specs.Denials.{MayDeny}
+use Rattle.heap_gate.specs.Token.{HeapToken, AreOut, is_out, Always, now}
+use Rattle.heap_gate.specs.Calls.{HasGiven}
+use Rattle.heap_gate.proofs.Standing.{give_of}
+use Rattle.heap_gate.proofs.Tokens.{faced, goes_by, may_by}
+use Rattle.heap_gate.proofs.Taking.{out_head, out_top}
+use Rattle.heap_gate.proofs.Denying.{two, behind_given, denied_giving, has_denied_given}
+use Rattle.heap_gate.proofs.locks.give_lock_denying.Goals as goal
+
+pub deny_give_by-requires-clause-out : goal.deny_give_by-requires-clause-out
+deny_give_by-requires-clause-out g c =
+    let i = c.c.inside in let f : Face = record { number = i.number; prepared = i.prepared.items; pending = i.pending; call = i.call; fresh = i.fresh; locked = i.locked; inside = i.inside; depth = i.depth; whole = i.whole; free = i.free; drawn = i.drawn } in let h = c.c.invariant in let z = i.place.table_id in let me = i.place.me in let stream = words_of i.draws in let v = c.c.view_is in
+    let x = out_head me.1 (slot_of c.args.what) c.requires.lock.0 h.slots (ap (λ (t : Token). t.out) v ∙ c.requires.lock.1) in (x.0, x.1)
+
+pub deny_give_by-requires-clause-may : goal.deny_give_by-requires-clause-may
+deny_give_by-requires-clause-may g c =
+    let i = c.c.inside in let f : Face = record { number = i.number; prepared = i.prepared.items; pending = i.pending; call = i.call; fresh = i.fresh; locked = i.locked; inside = i.inside; depth = i.depth; whole = i.whole; free = i.free; drawn = i.drawn } in let h = c.c.invariant in let z = i.place.table_id in let me = i.place.me in let stream = words_of i.draws in let v = c.c.view_is in
+    let what = c.args.what in
+    let inside = (λ j. (ap (λ (t : Token). t.inside || not (t.depth == 0)) v) j) ∙ c.requires.inside in
+    let tells = subst (λ (t : Token). Always t (λ s. (leaves_whole (now s t).state what ≡ true) × Tells what t.opening (now s t).state (g.T.Stands.stands c.args.state))) (sym v) c.requires.tells in
+    let top = ap (is_out what) (ap (λ (t : Token). t.out) v ∙ c.requires.lock.1) ∙ out_top what c.requires.lock.0 c.requires.slot in
+    may_by z me f i.slot stream h (λ m n. MayGiveBack m n what × Tells what me.0.opening m.state (g.T.Stands.stands c.args.state))
+    (λ s q. let t = tells s q in (give_of (ready_after s me.0 f.prepared) i.number i.call i.depth (outs me.1) i.fresh i.inside i.whole i.free what inside top t.0 (h.at s q), t.1))
+
+pub deny_give_by-requires-clause-none : goal.deny_give_by-requires-clause-none
+deny_give_by-requires-clause-none g c =
+    let i = c.c.inside in let f : Face = record { number = i.number; prepared = i.prepared.items; pending = i.pending; call = i.call; fresh = i.fresh; locked = i.locked; inside = i.inside; depth = i.depth; whole = i.whole; free = i.free; drawn = i.drawn } in let h = c.c.invariant in let z = i.place.table_id in let me = i.place.me in let stream = words_of i.draws in let v = c.c.view_is in
+    let same : me.0.opening ≡ c.heap.inside.table.shared.key = ap (λ (t : Token). t.opening) v ∙ (c.requires.opening ∙ (ap (λ (t : HeapToken). t.opening) (sym c.heap.view_is) ∙ sym c.heap.invariant.same)) in
+    let none = subst (λ (t : Token). Always t (λ s. MayDeny t.opening.limits (now s t) t.number c.args.addr)) (sym v) c.requires.none in
+    may_by z me f i.slot stream h (λ m n. MayDeny c.heap.inside.table.shared.key.limits m n c.args.addr) (λ s q. subst (λ (o : Opening). MayDeny o.limits (ready_after s me.0 f.prepared) i.number c.args.addr) same (none s q))
+
+pub invariant_of-c : goal.invariant_of-c
+invariant_of-c g c =
+    let i = c.c.inside in let f : Face = record { number = i.number; prepared = i.prepared.items; pending = i.pending; call = i.call; fresh = i.fresh; locked = i.locked; inside = i.inside; depth = i.depth; whole = i.whole; free = i.free; drawn = i.drawn } in let h = c.c.invariant in let z = i.place.table_id in let me = i.place.me in let stream = words_of i.draws in let v = c.c.view_is in
+    let p = c.deny_give_by.new.place in let what = c.args.what in let addr = c.args.addr in let told = c.deny_give_by.ensures.told in
+    let w = ap (λ (t : Token). t.whole) v ∙ c.requires.whole in
+    let out = ap (λ (t : Token). t.out) v ∙ c.requires.lock.1 in
+    let head = out_head me.1 (slot_of what) c.requires.lock.0 h.slots out in
+    let slots = c.deny_give_by.ensures.slot head.0 head.1 in
+    let go = goes_by z me f i.slot stream h p.me.0 (λ n. two n (acts.NotLive addr) (acts.GiveLock what)) told.0 in
+    (denied_giving z me f i.slot stream h w addr p.me p.table_id c.deny_give_by.ensures.table c.clear.new.self.items c.clear.ensures what c.requires.slot go c.requires.lock.0 out c.requires.lock.2 (subst AreOut (sym slots) head.3) (ap outs slots ∙ head.2) told.1).caller
+
+pub returns : goal.returns
+returns g c =
+    let i = c.c.inside in let f : Face = record { number = i.number; prepared = i.prepared.items; pending = i.pending; call = i.call; fresh = i.fresh; locked = i.locked; inside = i.inside; depth = i.depth; whole = i.whole; free = i.free; drawn = i.drawn } in let h = c.c.invariant in let z = i.place.table_id in let me = i.place.me in let stream = words_of i.draws in let v = c.c.view_is in
+    let p = c.deny_give_by.new.place in let what = c.args.what in let addr = c.args.addr in let told = c.deny_give_by.ensures.told in
+    let w = ap (λ (t : Token). t.whole) v ∙ c.requires.whole in
+    let out = ap (λ (t : Token). t.out) v ∙ c.requires.lock.1 in
+    let head = out_head me.1 (slot_of what) c.requires.lock.0 h.slots out in
+    let slots = c.deny_give_by.ensures.slot head.0 head.1 in
+    let go = goes_by z me f i.slot stream h p.me.0 (λ n. two n (acts.NotLive addr) (acts.GiveLock what)) told.0 in
+    subst (λ (t : Token). HasGiven t (tok p.table_id p.me (faced z me f i.slot stream h (behind_given z me f i.slot stream h w addr p.me p.table_id c.deny_give_by.ensures.table c.clear.new.self.items c.clear.ensures what c.requires.slot go c.requires.lock.0 out c.requires.lock.2 (subst AreOut (sym slots) head.3) (ap outs slots ∙ head.2) told.1) c.clear.new.self.items)) what (two t.number (acts.NotLive addr) (acts.GiveLock what))) v
+    (has_denied_given z me f i.slot stream h w addr p.me p.table_id c.deny_give_by.ensures.table c.clear.new.self.items c.clear.ensures what c.requires.slot go c.requires.lock.0 out c.requires.lock.2 (subst AreOut (sym slots) head.3) (ap outs slots ∙ head.2) told.1)
