@@ -1,3 +1,1 @@
 pub mod SetLemmas
-pub mod PlaceLemmas
-pub mod KeptLemmas
