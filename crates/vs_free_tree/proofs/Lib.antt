@@ -1,1 +1,9 @@
 pub mod SetLemmas
+pub mod EntryLemmas
+pub mod SlotLemmas
+pub mod LowerLeft
+pub mod LowerLeftTwice
+pub mod Lowered
+pub mod LowerRight
+pub mod LowerRightTwice
+pub mod Raised

@@ -21,14 +21,16 @@ index_of x = record { gaps = x.gaps; capacity = x.capacity }
 
 abbrev pub node_code : Coded Node
 node_code =
-    code_by (ℕ × ℕ × Option ℕ × Option ℕ × ℕ) (coded× coded_ℕ (coded× coded_ℕ (coded× (coded_option coded_ℕ) (coded× (coded_option coded_ℕ) coded_ℕ))))
-    (λ n. (n.units, n.at, n.left, n.right, n.height)) (λ p. record { units = p.0; at = p.1; left = p.2; right = p.3; height = p.4 }) (λ _. refl)
+    code_by (ℕ × (ℕ × (Option ℕ × (Option ℕ × ℕ)))) (coded× coded_ℕ (coded× coded_ℕ (coded× (coded_option coded_ℕ) (coded× (coded_option coded_ℕ) coded_ℕ))))
+    (λ n. (n.units, (n.at, (n.left, (n.right, n.height)))))
+    (λ p. record { units = p.0; at = p.1.0; left = p.1.1.0; right = p.1.1.1.0; height = p.1.1.1.1 }) (λ _. refl)
 
 abbrev pub gap_tree_code : Coded GapTree
 gap_tree_code =
-    code_by (Gaps × ℕ × ℕ × Option ℕ × List (Option Node))
+    code_by (Gaps × (ℕ × (ℕ × (Option ℕ × List (Option Node)))))
     (coded× (set.code (coded× coded_ℕ coded_ℕ)) (coded× coded_ℕ (coded× coded_ℕ (coded× (coded_option coded_ℕ) (coded_list (coded_option node_code))))))
-    (λ x. (x.gaps, x.capacity, x.reserved, x.root, x.nodes)) (λ p. record { gaps = p.0; capacity = p.1; reserved = p.2; root = p.3; nodes = p.4 }) (λ _. refl)
+    (λ x. (x.gaps, (x.capacity, (x.reserved, (x.root, x.nodes)))))
+    (λ p. record { gaps = p.0; capacity = p.1.0; reserved = p.1.1.0; root = p.1.1.1.0; nodes = p.1.1.1.1 }) (λ _. refl)
 
 abbrev pub empty_tree : ℕ → ℕ → GapTree
 empty_tree capacity reserved = record { gaps = set.empty; capacity = capacity; reserved = reserved; root = None; nodes = replicate capacity None }
@@ -67,12 +69,12 @@ abbrev pub height_of : Option Node → ℕ
 height_of None = 0
 height_of (Some n) = n.height
 
+abbrev pub height_from : GapTree → Option ℕ → ℕ
+height_from x None = 0
+height_from x (Some i) = height_of (node_at x i)
+
 abbrev pub root_height : GapTree → ℕ
-root_height x = height_under x x.root
-  where
-    abbrev height_under : GapTree → Option ℕ → ℕ
-    height_under x None = 0
-    height_under x (Some i) = height_of (node_at x i)
+root_height x = height_from x x.root
 
 -- `node` answers otherwise for at most n numbers
 pub record DifferInAtMost (n : ℕ) (x y : GapTree) : Type 0 where

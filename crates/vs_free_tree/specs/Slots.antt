@@ -80,21 +80,31 @@ pub record Joins (s z : List Slot) (k : ℕ) (l r : Tree) (i : ℕ) (t : Tree) :
   pub beside : IsSameBeside (entries t) s z
   pub few : ChangeAtMost 3 s z
 
-abbrev pub CanJoin : List Slot → ℕ → ℕ → ℕ → Type 0
-CanJoin s k a b = (l : Tree) × (r : Tree) × AreSides s k a b l r × (height l ≤ height r + 2) × (height r ≤ height l + 2)
+pub record CanJoin (s : List Slot) (k a b : ℕ) : Type 0 where
+  pub l : Tree
+  pub r : Tree
+  pub sides : AreSides s k a b l r
+  pub left_near : height l ≤ height r + 2
+  pub right_near : height r ≤ height l + 2
 
 abbrev pub IsJoined : List Slot → List Slot → ℕ → ℕ → ℕ → ℕ → Type 0
 IsJoined s z k a b i =
     (l r : Tree) → AreSides s k a b l r → height l ≤ height r + 2 → height r ≤ height l + 2 → (t : Tree) × Joins s z k l r i t
 
-abbrev pub IsLeftHigh : List Slot → ℕ → ℕ → ℕ → Type 0
-IsLeftHigh s k a b = (l : Tree) × (r : Tree) × AreSides s k a b l r × (height l ≡ height r + 2)
+pub record IsLeftHigh (s : List Slot) (k a b : ℕ) : Type 0 where
+  pub l : Tree
+  pub r : Tree
+  pub sides : AreSides s k a b l r
+  pub high : height l ≡ height r + 2
 
 abbrev pub IsLowered : List Slot → List Slot → ℕ → ℕ → ℕ → ℕ → Type 0
 IsLowered s z k a b i = (l r : Tree) → AreSides s k a b l r → height l ≡ height r + 2 → (t : Tree) × Joins s z k l r i t
 
-abbrev pub IsRightHigh : List Slot → ℕ → ℕ → ℕ → Type 0
-IsRightHigh s k a b = (l : Tree) × (r : Tree) × AreSides s k a b l r × (height r ≡ height l + 2)
+pub record IsRightHigh (s : List Slot) (k a b : ℕ) : Type 0 where
+  pub l : Tree
+  pub r : Tree
+  pub sides : AreSides s k a b l r
+  pub high : height r ≡ height l + 2
 
 abbrev pub IsRaised : List Slot → List Slot → ℕ → ℕ → ℕ → ℕ → Type 0
 IsRaised s z k a b i = (l r : Tree) → AreSides s k a b l r → height r ≡ height l + 2 → (t : Tree) × Joins s z k l r i t
@@ -164,8 +174,11 @@ pub record TakesLeast (s z : List Slot) (t : Tree) (x : Taken) (u : Tree) : Type
   pub beside : IsSameBeside (entries u) s z
   pub few : ChangeAtMost (3 * height t) s z
 
-abbrev pub CanTakeLeast : List Slot → ℕ → Type 0
-CanTakeLeast s i = (l : Tree) × (e : Entry) × (r : Tree) × IsFewTreeAt s i (fork l e r)
+pub record CanTakeLeast (s : List Slot) (i : ℕ) : Type 0 where
+  pub l : Tree
+  pub e : Entry
+  pub r : Tree
+  pub few_tree : IsFewTreeAt s i (fork l e r)
 
 abbrev pub IsLeastTaken : List Slot → List Slot → ℕ → Taken → Type 0
 IsLeastTaken s z i x = (l : Tree) (e : Entry) (r : Tree) → IsFewTreeAt s i (fork l e r) → (u : Tree) × TakesLeast s z (fork l e r) x u
@@ -187,8 +200,10 @@ pub record Merges (s z : List Slot) (l r : Tree) (i : ℕ) (u : Tree) : Type 0 w
   pub beside : IsSameBeside (entries u) s z
   pub few : ChangeAtMost (3 * suc (max (height l) (height r))) s z
 
-abbrev pub CanMerge : List Slot → ℕ → ℕ → Type 0
-CanMerge s a b = (l : Tree) × (r : Tree) × AreMergeable s a b l r
+pub record CanMerge (s : List Slot) (a b : ℕ) : Type 0 where
+  pub l : Tree
+  pub r : Tree
+  pub mergeable : AreMergeable s a b l r
 
 abbrev pub IsMerged : List Slot → List Slot → ℕ → ℕ → ℕ → Type 0
 IsMerged s z a b i = (l r : Tree) → AreMergeable s a b l r → (u : Tree) × Merges s z l r i u
