@@ -7,3 +7,4 @@ pub mod Lowered
 pub mod LowerRight
 pub mod LowerRightTwice
 pub mod Raised
+pub mod Joined
