@@ -32,6 +32,14 @@ pub all_both : {X : Type 0} (P Q R : X → Type 0) → ((x : X) → P x → Q x 
 all_both P Q R f [] h k = tt
 all_both P Q R f (x ∷ xs) h k = (f x h.0 k.0, all_both P Q R f xs h.1 k.1)
 
+pub all_put : {X : Type 0} (P : X → Type 0) (xs : List X) (e : X) (ys : List X) → P e → AllByRecursion P (xs ++ ys) → AllByRecursion P (xs ++ e ∷ ys)
+all_put P [] e ys p h = (p, h)
+all_put P (x ∷ xs) e ys p h = (h.0, all_put P xs e ys p h.1)
+
+pub all_drop : {X : Type 0} (P : X → Type 0) (xs : List X) (e : X) (ys : List X) → AllByRecursion P (xs ++ e ∷ ys) → AllByRecursion P (xs ++ ys)
+all_drop P [] e ys h = h.1
+all_drop P (x ∷ xs) e ys h = (h.0, all_drop P xs e ys h.1)
+
 ---- A rising list, at one of its nodes
 
 pub record IsCutAt (a : List Entry) (e : Entry) (b : List Entry) : Type 0 where

@@ -8,3 +8,4 @@ pub mod LowerRight
 pub mod LowerRightTwice
 pub mod Raised
 pub mod Joined
+pub mod Sides

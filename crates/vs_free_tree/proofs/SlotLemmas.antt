@@ -24,11 +24,18 @@ shown_gaps s (fork l e r) sh =
     (ap (λ (x : Slot). let g : ℕ × ℕ = (x.units, x.at) in g) sh.1, shown_gaps s r sh.3)
 
 -- a number has one gap, so it stands at one place of a rising list
-other_number : (s : List Slot) (P : ℕ × ℕ → Bool) (es : List Entry) (i : ℕ) → AllByRecursion (HasItsGap s) es → AllByRecursion (λ e. P e.gap ≡ true) es
+pub other_number : (s : List Slot) (P : ℕ × ℕ → Bool) (es : List Entry) (i : ℕ) → AllByRecursion (HasItsGap s) es → AllByRecursion (λ e. P e.gap ≡ true) es
     → P (gap_at s i) ≡ false → Avoid es i
 other_number s P es i has all other =
     all_both (HasItsGap s) (λ e. P e.gap ≡ true) (λ e. e.number ≢ i)
     (λ e own yes same. true≢false (sym yes ∙ ap P (sym own) ∙ ap (λ n. P (gap_at s n)) same ∙ other)) es has all
+
+-- a node of a tree is not free
+pub shown_heights : (s : List Slot) (t : Tree) → Show s t → AllByRecursion (λ e. height_at s e.number ≢ 0) (entries t)
+shown_heights s leaf sh = tt
+shown_heights s (fork l e r) sh =
+    all_join (λ (x : Entry). height_at s x.number ≢ 0) (entries l) (e ∷ entries r) (shown_heights s l sh.2)
+    ((λ none. let some = ap (λ (x : Slot). x.height) sh.1 in omega (arith, none, some)), shown_heights s r sh.3)
 
 pub record IsAlone (a : List Entry) (e : Entry) (b : List Entry) : Type 0 where
   pub front : Avoid a e.number
