@@ -1,5 +1,5 @@
 -- Lists of nodes whose gaps rise.
-use Rattle.std.proofs.Common.{◌≡◌, ℕ, Bool, true, false, List, [], ◌∷◌, ◌++◌, arith, sym, ◌∙◌, true≢false}
+use Rattle.std.proofs.Common.{◌≡◌, ◌≢◌, ℕ, Bool, true, false, List, [], ◌∷◌, ◌++◌, arith, refl, sym, ◌∙◌, true≢false}
 use Rattle.std.specs.List.{AllByRecursion}
 use Rattle.std.proofs.lemmas.Bool.Decides.{nat_tests}
 use Rattle.vs_free_tree.specs.Gaps.{is_before}
@@ -13,6 +13,16 @@ before_both g h e = grind (arith, nat_tests)
 
 pub before_along : (f g h : ℕ × ℕ) → is_before f g ≡ true → is_before g h ≡ true → is_before f h ≡ true
 before_along f g h d e = grind (arith, nat_tests)
+
+pub behind_other : (g h : ℕ × ℕ) → is_before h g ≡ false → g ≢ h → is_before g h ≡ true
+behind_other g h e other = by (is_before g h) refl
+  where
+    same_parts : g.0 ≡ h.0 → g.1 ≡ h.1 → g ≡ h
+    same_parts p q i = (p i, q i)
+
+    by : (b : Bool) → is_before g h ≡ b → is_before g h ≡ true
+    by true f = f
+    by false f = absurd (other (same_parts (grind (arith, nat_tests)) (grind (arith, nat_tests))))
 
 ---- What holds of each
 

@@ -9,3 +9,4 @@ pub mod LowerRightTwice
 pub mod Raised
 pub mod Joined
 pub mod Sides
+pub mod Inserted

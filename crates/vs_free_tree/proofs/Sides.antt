@@ -7,7 +7,7 @@ use Rattle.vs_free_tree.specs.Gaps.{is_before}
 use Rattle.vs_free_tree.specs.Tree.{Entry, Tree, leaf, fork, entries, height, IsBalanced, AreBefore, AreBehind, AreRising, Avoid}
 use Rattle.vs_free_tree.specs.Slots.{slot_at, height_at, gap_at, entry_at, root_of, slot_of, Show, IsTreeAt, IsSameBeside, ChangeAtMost, AreSides}
 use Rattle.vs_free_tree.proofs.EntryLemmas.{before_itself, before_both, all_split, all_join, all_weaker, all_both, rising_cut}
-use Rattle.vs_free_tree.proofs.SlotLemmas.{HasItsGap, shown_gaps, other_number, IsAlone, alone, keep}
+use Rattle.vs_free_tree.proofs.SlotLemmas.{height_shown, HasItsGap, shown_gaps, other_number, IsAlone, alone, keep}
 
 ---- Heights
 
@@ -29,6 +29,39 @@ low_height t level few = at_least (cases_lt (height t) 66)
     at_least : (height t < 66) ⊎ (66 ≤ height t) → height t < 66
     at_least (inl l) = l
     at_least (inr h) = absurd (omega (arith, many_nodes t 33 level (omega arith)))
+
+-- the height t of a node behind a join, where one of the two sides l and r has become u
+pub record IsWithin (low high t : ℕ) : Type 0 where
+  pub from : low ≤ t
+  pub to : t ≤ high
+
+pub grown_left : (l r u t : ℕ) → l ≤ r + 1 → r ≤ l + 1 → l ≤ u → u ≤ l + 1 → max u r ≤ t → t ≤ suc (max u r)
+    → (u ≤ r + 1 → r ≤ u + 1 → t ≡ suc (max u r)) → IsWithin (suc (max l r)) (suc (max l r) + 1) t
+grown_left l r u t a b c d low high level = elim (cases_lt (r + 1) u) [
+  | inl far ↦ record { from = omega arith; to = omega arith }
+  | inr near ↦ let e = level near (omega arith) in record { from = omega (arith, e); to = omega (arith, e) }
+]
+
+pub grown_right : (l r u t : ℕ) → l ≤ r + 1 → r ≤ l + 1 → r ≤ u → u ≤ r + 1 → max l u ≤ t → t ≤ suc (max l u)
+    → (l ≤ u + 1 → u ≤ l + 1 → t ≡ suc (max l u)) → IsWithin (suc (max l r)) (suc (max l r) + 1) t
+grown_right l r u t a b c d low high level = elim (cases_lt (l + 1) u) [
+  | inl far ↦ record { from = omega arith; to = omega arith }
+  | inr near ↦ let e = level (omega arith) near in record { from = omega (arith, e); to = omega (arith, e) }
+]
+
+pub shrunk_left : (l r u t : ℕ) → l ≤ r + 1 → r ≤ l + 1 → u ≤ l → l ≤ u + 1 → max u r ≤ t → t ≤ suc (max u r)
+    → (u ≤ r + 1 → r ≤ u + 1 → t ≡ suc (max u r)) → IsWithin (max l r) (suc (max l r)) t
+shrunk_left l r u t a b c d low high level = elim (cases_lt (u + 1) r) [
+  | inl far ↦ record { from = omega arith; to = omega arith }
+  | inr near ↦ let e = level (omega arith) near in record { from = omega (arith, e); to = omega (arith, e) }
+]
+
+pub shrunk_right : (l r u t : ℕ) → l ≤ r + 1 → r ≤ l + 1 → u ≤ r → r ≤ u + 1 → max l u ≤ t → t ≤ suc (max l u)
+    → (l ≤ u + 1 → u ≤ l + 1 → t ≡ suc (max l u)) → IsWithin (max l r) (suc (max l r)) t
+shrunk_right l r u t a b c d low high level = elim (cases_lt (u + 1) l) [
+  | inl far ↦ record { from = omega arith; to = omega arith }
+  | inr near ↦ let e = level near (omega arith) in record { from = omega (arith, e); to = omega (arith, e) }
+]
 
 ---- What changed in two steps
 
@@ -73,6 +106,16 @@ module _ (s : List Slot) (i : ℕ) (L : Tree) (e : Entry) (R : Tree) (tree : IsT
     rising = (rising_cut (entries L) e (entries R) tree.rising).back;
     balanced = tree.balanced.3;
   }
+
+  pub lower_left_side : height_at s (slot_at s i).left < height_at s i
+  lower_left_side =
+      let own : height_at s i ≡ height (fork L e R) = ap (λ (x : Slot). x.height) here in
+      omega (arith, own, ap (height_at s) left_tree.root, height_shown s L tree.fits tree.shown.2)
+
+  pub lower_right_side : height_at s (slot_at s i).right < height_at s i
+  lower_right_side =
+      let own : height_at s i ≡ height (fork L e R) = ap (λ (x : Slot). x.height) here in
+      omega (arith, own, ap (height_at s) right_tree.root, height_shown s R tree.fits tree.shown.3)
 
   pub all_before : AreBefore (entries L) e.gap
   all_before = (rising_cut (entries L) e (entries R) tree.rising).before
