@@ -10,3 +10,5 @@ pub mod Raised
 pub mod Joined
 pub mod Sides
 pub mod Inserted
+pub mod Found
+pub mod LeastTaken
