@@ -12,3 +12,4 @@ pub mod Sides
 pub mod Inserted
 pub mod Found
 pub mod LeastTaken
+pub mod Merged

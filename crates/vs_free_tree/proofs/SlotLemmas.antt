@@ -30,6 +30,11 @@ other_number s P es i has all other =
     all_both (HasItsGap s) (λ e. P e.gap ≡ true) (λ e. e.number ≢ i)
     (λ e own yes same. true≢false (sym yes ∙ ap P (sym own) ∙ ap (λ n. P (gap_at s n)) same ∙ other)) es has all
 
+pub shown_within : (s : List Slot) (t : Tree) → Show s t → AllByRecursion (λ e. e.number < length s) (entries t)
+shown_within s leaf sh = tt
+shown_within s (fork l e r) sh =
+    all_join (λ (x : Entry). x.number < length s) (entries l) (e ∷ entries r) (shown_within s l sh.2) (sh.0, shown_within s r sh.3)
+
 -- a node of a tree is not free
 pub shown_heights : (s : List Slot) (t : Tree) → Show s t → AllByRecursion (λ e. height_at s e.number ≢ 0) (entries t)
 shown_heights s leaf sh = tt
