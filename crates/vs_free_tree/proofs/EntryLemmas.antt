@@ -14,15 +14,19 @@ before_both g h e = grind (arith, nat_tests)
 pub before_along : (f g h : ℕ × ℕ) → is_before f g ≡ true → is_before g h ≡ true → is_before f h ≡ true
 before_along f g h d e = grind (arith, nat_tests)
 
-pub behind_other : (g h : ℕ × ℕ) → is_before h g ≡ false → g ≢ h → is_before g h ≡ true
-behind_other g h e other = by (is_before g h) refl
+-- gaps of which neither comes before the other are one
+pub same_gap : (g h : ℕ × ℕ) → is_before g h ≡ false → is_before h g ≡ false → g ≡ h
+same_gap g h d e = same_parts (grind (arith, nat_tests)) (grind (arith, nat_tests))
   where
     same_parts : g.0 ≡ h.0 → g.1 ≡ h.1 → g ≡ h
     same_parts p q i = (p i, q i)
 
+pub behind_other : (g h : ℕ × ℕ) → is_before h g ≡ false → g ≢ h → is_before g h ≡ true
+behind_other g h e other = by (is_before g h) refl
+  where
     by : (b : Bool) → is_before g h ≡ b → is_before g h ≡ true
     by true f = f
-    by false f = absurd (other (same_parts (grind (arith, nat_tests)) (grind (arith, nat_tests))))
+    by false f = absurd (other (same_gap g h f e))
 
 ---- What holds of each
 

@@ -13,3 +13,4 @@ pub mod Inserted
 pub mod Found
 pub mod LeastTaken
 pub mod Merged
+pub mod TakenOut
