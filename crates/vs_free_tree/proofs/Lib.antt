@@ -14,3 +14,6 @@ pub mod Found
 pub mod LeastTaken
 pub mod Merged
 pub mod TakenOut
+pub mod GapLemmas
+pub mod SeenLemmas
+pub mod KeptLemmas

@@ -1,10 +1,12 @@
-use Rattle.std.proofs.Common.{rules, ◌≡◌, ◌+◌, ◌*◌, ◌<◌, false, IfOk, MatchOption, ℕ, ◌-◌, ◌≤◌, length, ◌/◌, ◌%◌, Bool, true, nat_eq, nat_lt, List, [], ◌∷◌, ◌++◌, slice_index_or, bit_and, bit_or, Fits, w8, w32, w64, Bor, MutBor}
+-- The nodes that hold a gap, and the spare ones, are all.
+use Rattle.std.proofs.Common.{◌+◌, sym, ap, ◌∙◌}
 use Rattle.std.specs.FinSet as set
-use Rattle.vs_free_tree.specs.Gaps.{NoneFits, IsBest}
-use Rattle.vs_free_tree.specs.Index.{empty_tree, node_at, root_height, IsTreeOfGaps, DifferInAtMost}
-use Rattle.vs_free_tree.specs.Kept.{number_seen, seen}
+use Rattle.vs_free_tree.specs.Index.{GapTree}
+use Rattle.vs_free_tree.proofs.KeptLemmas.{total}
 use Rattle.vs_free_tree.proofs.FreeIndex.spare.Goals as goal
 
--- src/lib.rt:85:5
 pub returns : goal.returns
-returns c = ?
+returns c =
+    ap (λ (x : GapTree). c.self.inside.spare + set.len x.gaps) (sym c.self.view_is)
+    ∙ total c.self.inside.nodes.items c.self.inside.root c.self.inside.free c.self.inside.spare c.self.invariant
+    ∙ ap (λ (x : GapTree). x.capacity) c.self.view_is
