@@ -17,3 +17,4 @@ pub mod TakenOut
 pub mod GapLemmas
 pub mod SeenLemmas
 pub mod KeptLemmas
+pub mod ViewLemmas

@@ -69,10 +69,11 @@ seen_node s l e r fits sh =
     ∙ else_if (suc (max (height l) (height r))) 0 None _ (omega arith)
     ∙ both (number_is s l fits sh.2) (number_is s r fits sh.3)
   where
-    both : {a b c d : Option ℕ} → a ≡ b → c ≡ d
-        → Some (record { units = e.gap.0; at = e.gap.1; left = a; right = c; height = suc (max (height l) (height r)) })
-        ≡ Some (record { units = e.gap.0; at = e.gap.1; left = b; right = d; height = suc (max (height l) (height r)) })
-    both p q i = Some (record { units = e.gap.0; at = e.gap.1; left = p i; right = q i; height = suc (max (height l) (height r)) })
+    with_sides : Option ℕ → Option ℕ → Node
+    with_sides a b = record { units = e.gap.0; at = e.gap.1; left = a; right = b; height = suc (max (height l) (height r)) }
+
+    both : {a b c d : Option ℕ} → a ≡ b → c ≡ d → Some (with_sides a c) ≡ Some (with_sides b d)
+    both p q i = Some (with_sides (p i) (q i))
 
 pub node_seen : (s : List Slot) (root reserved i : ℕ) → node_at (seen_as s root reserved) i ≡ seen (slot_at s i)
 node_seen s root reserved i = get_or-map seen s i (record { at = 0; left = 0; right = 0; units = 0; height = 0 })

@@ -1,10 +1,11 @@
-use Rattle.std.proofs.Common.{rules, ◌≡◌, ◌+◌, ◌*◌, ◌<◌, false, IfOk, MatchOption, ℕ, ◌-◌, ◌≤◌, length, ◌/◌, ◌%◌, Bool, true, nat_eq, nat_lt, List, [], ◌∷◌, ◌++◌, slice_index_or, bit_and, bit_or, Fits, w8, w32, w64, Bor, MutBor}
-use Rattle.std.specs.FinSet as set
-use Rattle.vs_free_tree.specs.Gaps.{NoneFits, IsBest}
-use Rattle.vs_free_tree.specs.Index.{empty_tree, node_at, root_height, IsTreeOfGaps, DifferInAtMost}
-use Rattle.vs_free_tree.specs.Kept.{number_seen, seen}
+-- The index is its tree.
+use Rattle.std.proofs.Common.{subst}
+use Rattle.std.specs.Vec.{vec_capacity}
+use Rattle.vs_free_tree.specs.Index.{GapTree, IsTreeOfGaps}
+use Rattle.vs_free_tree.proofs.SeenLemmas.{shown_by}
 use Rattle.vs_free_tree.proofs.FreeIndex.root.Goals as goal
 
--- src/lib.rt:129:5
 pub returns-clause-tree : goal.returns-clause-tree
-returns-clause-tree c = ?
+returns-clause-tree c =
+    subst IsTreeOfGaps c.self.view_is
+    (c.self.invariant.tree, shown_by c.self.inside.nodes.items c.self.inside.root (vec_capacity c.self.inside.nodes) c.self.invariant.tree c.self.invariant.is_tree c.self.invariant.others)
