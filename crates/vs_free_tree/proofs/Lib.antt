@@ -18,3 +18,4 @@ pub mod GapLemmas
 pub mod SeenLemmas
 pub mod KeptLemmas
 pub mod ViewLemmas
+pub mod NewLemmas

@@ -1,26 +1,35 @@
-use Rattle.std.proofs.Common.{rules, ◌≡◌, ◌+◌, ◌*◌, ◌<◌, false, IfOk, MatchOption, ℕ, ◌-◌, ◌≤◌, length, ◌/◌, ◌%◌, Bool, true, nat_eq, nat_lt, List, [], ◌∷◌, ◌++◌, slice_index_or, bit_and, bit_or, Fits, w8, w32, w64, Bor, MutBor}
-use Rattle.std.specs.FinSet as set
-use Rattle.vs_free_tree.specs.Gaps.{NoneFits, IsBest}
-use Rattle.vs_free_tree.specs.Index.{empty_tree, node_at, root_height, IsTreeOfGaps, DifferInAtMost}
-use Rattle.vs_free_tree.specs.Kept.{number_seen, seen}
+-- Each node that is made is free, and there is room for all.
+use Rattle.std.proofs.Common.{◌≡◌, ◌^◌, ◌<◌, ◌≤◌, ◌++◌, ◌∷◌, [], List, sym, ap, subst, ◌∙◌, arith}
+use Rattle.std.specs.Vec.{vec_capacity}
+use Rattle.vs_free_tree.specs.declared.tree.Slot.{Slot}
+use Rattle.vs_free_tree.proofs.NewLemmas.{AreNew, new_none, new_more, kept_new, seen_new}
 use Rattle.vs_free_tree.proofs.FreeIndex.new.Goals as goal
 
--- src/lib.rt:72:9
 pub loop-number-init : goal.loop-number-init
-loop-number-init c = ?
+loop-number-init c = record { new = new_none c.in_ok-nodes.nodes.items c.in_ok-nodes.ensures.items; room = c.in_ok-nodes.ensures.capacity }
 
--- src/lib.rt:73:13
 pub unwrap-requires : goal.unwrap-requires
-unwrap-requires c = ?
+unwrap-requires c =
+    c.push.ensures.succeeds (omega (arith, c.loop-number.nodes.ok.0, c.loop-number.invariant.new.long, c.loop-number.invariant.room, c.loop-number-test.true))
 
--- src/lib.rt:72:9
 pub loop-number-preserved : goal.loop-number-preserved
-loop-number-preserved c = ?
+loop-number-preserved c =
+    let items = rw c.unwrap.ensures at c.push.ensures.items in
+    record {
+      new =
+          new_more c.loop-number.nodes.items c.push.new.self.items c.loop-number.free c.loop-number.number c.loop-number.invariant.new
+          (items ∙ ap (λ (v : Slot). c.loop-number.nodes.items ++ v ∷ []) c.free.ensures);
+      room = omega (arith, c.loop-number.invariant.room, c.push.ensures.capacity);
+    }
 
--- src/lib.rt:76:9
 pub invariant_of-result : goal.invariant_of-result
-invariant_of-result c = ?
+invariant_of-result c =
+    let all : c.loop-number.number ≡ c.args.capacity = omega arith in
+    kept_new c.loop-number.nodes.items c.loop-number.free c.args.capacity (omega arith)
+    (subst (λ n. AreNew c.loop-number.nodes.items c.loop-number.free n) all c.loop-number.invariant.new)
 
--- src/lib.rt:67:5
 pub returns : goal.returns
-returns c = ?
+returns c =
+    let all : c.loop-number.number ≡ c.args.capacity = omega arith in
+    seen_new c.loop-number.nodes.items c.loop-number.free c.args.capacity (omega arith)
+    (subst (λ n. AreNew c.loop-number.nodes.items c.loop-number.free n) all c.loop-number.invariant.new) (vec_capacity c.loop-number.nodes)
