@@ -93,9 +93,11 @@ first_is_best units es g up f =
     let cut = rising_cut f.front f.entry f.back (subst AreRising f.holds up) in
     let all : AllByRecursion (λ (x : Entry). units ≤ x.gap.0 → IsUpTo f.entry.gap x.gap) (f.front ++ f.entry ∷ f.back) =
     all_join (λ (x : Entry). units ≤ x.gap.0 → IsUpTo f.entry.gap x.gap) f.front (f.entry ∷ f.back)
-    (all_weaker (λ (x : Entry). x.gap.0 < units) (λ (x : Entry). units ≤ x.gap.0 → IsUpTo f.entry.gap x.gap) (λ x low fits. absurd (omega arith)) f.front f.smaller)
-    ((λ fits. up_to_itself f.entry.gap), all_weaker (λ (x : Entry). is_before f.entry.gap x.gap ≡ true) (λ (x : Entry). units ≤ x.gap.0 → IsUpTo f.entry.gap x.gap)
-      (λ x before fits. up_to_if_before f.entry.gap x.gap before) f.back cut.behind) in
+    (all_weaker (λ (x : Entry). x.gap.0 < units) (λ (x : Entry). units ≤ x.gap.0 → IsUpTo f.entry.gap x.gap) (λ x low fits. absurd (omega arith)) f.front f.smaller) (
+      (λ fits. up_to_itself f.entry.gap),
+      all_weaker (λ (x : Entry). is_before f.entry.gap x.gap ≡ true) (λ (x : Entry). units ≤ x.gap.0 → IsUpTo f.entry.gap x.gap)
+          (λ x before fits. up_to_if_before f.entry.gap x.gap before) f.back cut.behind,
+    ) in
     subst (IsBest units (gaps_of es)) f.gap (record {
       held = ap (λ (xs : List Entry). set.contains (gaps_of xs) f.entry.gap) f.holds ∙ of_held f.front f.entry f.back;
       fits = subst (λ (h : ℕ × ℕ). units ≤ h.0) (sym f.gap) f.fits;

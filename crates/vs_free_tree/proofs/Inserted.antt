@@ -90,15 +90,15 @@ module _ (s : List Slot) (i : ℕ) (g : ℕ × ℕ) (k : ℕ) (L : Tree) (e : En
       apart =
           all_both (λ (x : Entry). Avoid (entries L) x.number) (λ (x : Entry). k ≢ x.number) (λ (x : Entry). Avoid (entries u) x.number)
           (λ x lacks other.
-              subst (λ es. Avoid es x.number) (sym put.holds)
-              (all_put (λ (y : Entry). y.number ≢ x.number) put.front (put_entry k g) put.back other (subst (λ es. Avoid es x.number) put.was lacks)))
+          subst (λ es. Avoid es x.number) (sym put.holds)
+          (all_put (λ (y : Entry). y.number ≢ x.number) put.front (put_entry k g) put.back other (subst (λ es. Avoid es x.number) put.was lacks)))
           (e ∷ entries R) (right_apart s i L e R tree) (all_split (λ (x : Entry). k ≢ x.number) (entries L) (e ∷ entries R) fresh).1
 
       before : AreBefore (entries u) e.gap
       before =
           subst (λ es. AreBefore es e.gap) (sym put.holds)
           (all_put (λ (y : Entry). is_before y.gap e.gap ≡ true) put.front (put_entry k g) put.back
-            (ap (is_before g) (sym (node_gap s i L e R tree)) ∙ smaller) (subst (λ es. AreBefore es e.gap) put.was (all_before s i L e R tree)))
+          (ap (is_before g) (sym (node_gap s i L e R tree)) ∙ smaller) (subst (λ es. AreBefore es e.gap) put.was (all_before s i L e R tree)))
 
       low : height u < 254
       low = omega (arith, put.one_higher, low_height L tree.balanced.2 few_left)
@@ -151,16 +151,16 @@ module _ (s : List Slot) (i : ℕ) (g : ℕ × ℕ) (k : ℕ) (L : Tree) (e : En
           let parts = all_split (λ (x : Entry). k ≢ x.number) (entries L) (e ∷ entries R) fresh in
           all_both (λ (x : Entry). Avoid (entries R) x.number) (λ (x : Entry). k ≢ x.number) (λ (x : Entry). Avoid (entries u) x.number)
           (λ x lacks other.
-              subst (λ es. Avoid es x.number) (sym put.holds)
-              (all_put (λ (y : Entry). y.number ≢ x.number) put.front (put_entry k g) put.back other (subst (λ es. Avoid es x.number) put.was lacks)))
+          subst (λ es. Avoid es x.number) (sym put.holds)
+          (all_put (λ (y : Entry). y.number ≢ x.number) put.front (put_entry k g) put.back other (subst (λ es. Avoid es x.number) put.was lacks)))
           (e ∷ entries L) (left_apart s i L e R tree) (parts.1.0, parts.0)
 
       behind : AreBehind (entries u) e.gap
       behind =
           subst (λ es. AreBehind es e.gap) (sym put.holds)
           (all_put (λ (y : Entry). is_before e.gap y.gap ≡ true) put.front (put_entry k g) put.back
-            (ap (λ h. is_before h g) (sym (node_gap s i L e R tree)) ∙ behind_other (gap_at s i) g larger other_gap)
-            (subst (λ es. AreBehind es e.gap) put.was (all_behind s i L e R tree)))
+          (ap (λ h. is_before h g) (sym (node_gap s i L e R tree)) ∙ behind_other (gap_at s i) g larger other_gap)
+          (subst (λ es. AreBehind es e.gap) put.was (all_behind s i L e R tree)))
 
       low_right : height u < 254
       low_right = omega (arith, put.one_higher, low_height R tree.balanced.3 few_right)

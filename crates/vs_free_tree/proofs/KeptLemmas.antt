@@ -40,8 +40,12 @@ free_low s i (k ∷ ks) f = (f.2, free_low s (slot_at s k).left ks f.3)
 
 pub keep_free : (s z : List Slot) (i : ℕ) (ks : List ℕ) → AreFree s i ks → length s ≤ length z → AllByRecursion (λ k. slot_at z k ≡ slot_at s k) ks → AreFree z i ks
 keep_free s z i [] f long same = f
-keep_free s z i (k ∷ ks) f long same = (f.0, omega (arith, f.1, long), ap (λ (x : Slot). x.height) same.0 ∙ f.2,
-  subst (λ n. AreFree z n ks) (sym (ap (λ (x : Slot). x.left) same.0)) (keep_free s z (slot_at s k).left ks f.3 long same.1))
+keep_free s z i (k ∷ ks) f long same = (
+  f.0,
+  omega (arith, f.1, long),
+  ap (λ (x : Slot). x.height) same.0 ∙ f.2,
+  subst (λ n. AreFree z n ks) (sym (ap (λ (x : Slot). x.left) same.0)) (keep_free s z (slot_at s k).left ks f.3 long same.1),
+)
 
 -- a free node is none of the tree's
 free_apart : (s : List Slot) (t : Tree) (k : ℕ) → Show s t → height_at s k ≡ 0 → Avoid (entries t) k
@@ -105,8 +109,8 @@ module _ (s : List Slot) (root free spare : ℕ) (kept : IsKept s root free spar
         are_free =
             keep_free s z (slot_at s free).left first.rest first.behind (omega (arith, put.long))
             (all_both (λ (k : ℕ). k ≢ free) (λ (k : ℕ). Avoid (entries kept.tree) k) (λ (k : ℕ). slot_at z k ≡ slot_at s k)
-              (λ k other lacks. put.beside k (with_new k (λ e. other (sym e)) lacks)) first.rest rest_apart.0
-              (subst (AllByRecursion (λ k. Avoid (entries kept.tree) k)) first.is all_apart).1);
+            (λ k other lacks. put.beside k (with_new k (λ e. other (sym e)) lacks)) first.rest rest_apart.0
+            (subst (AllByRecursion (λ k. Avoid (entries kept.tree) k)) first.is all_apart).1);
         apart = rest_apart.1;
         spare_is = omega (arith, kept.spare_is, ap length first.is);
         counted = omega (arith, longer, kept.counted, put.long);
@@ -154,9 +158,10 @@ module _ (s : List Slot) (root free spare : ℕ) (kept : IsKept s root free spar
 
     without_old : (k : ℕ) → Avoid (entries kept.tree) k → (x.node ≢ k) × Avoid (entries u) k
     without_old k lacks =
-        let all = subst (λ es. Avoid es k) out.was lacks in
-        ((all_split (λ (y : Entry). y.number ≢ k) out.front (Y ∷ out.back) all).1.0,
-          subst (λ es. Avoid es k) (sym out.holds) (all_drop (λ (y : Entry). y.number ≢ k) out.front Y out.back all))
+        let all = subst (λ es. Avoid es k) out.was lacks in (
+          (all_split (λ (y : Entry). y.number ≢ k) out.front (Y ∷ out.back) all).1.0,
+          subst (λ es. Avoid es k) (sym out.holds) (all_drop (λ (y : Entry). y.number ≢ k) out.front Y out.back all),
+        )
 
     long_after : length after ≡ length s
     long_after = length-set z x.node freed_slot ∙ out.long
@@ -194,11 +199,15 @@ module _ (s : List Slot) (root free spare : ℕ) (kept : IsKept s root free spar
       is_tree = tree_after;
       others = low_after;
       freed = x.node ∷ kept.freed;
-      are_free = (refl, omega (arith, node_within, long_after), ap (λ (v : Slot). v.height) own_slot,
+      are_free = (
+        refl,
+        omega (arith, node_within, long_after),
+        ap (λ (v : Slot). v.height) own_slot,
         subst (λ n. AreFree after n kept.freed) (sym (ap (λ (v : Slot). v.left) own_slot))
-        (keep_free s after free kept.freed kept.are_free (omega (arith, long_after))
-          (all_weaker (λ (k : ℕ). Avoid (entries kept.tree) k) (λ (k : ℕ). slot_at after k ≡ slot_at s k)
-            (λ k lacks. let parts = without_old k lacks in other_slot k parts.0 ∙ out.beside k parts.1) kept.freed all_apart)));
+            (keep_free s after free kept.freed kept.are_free (omega (arith, long_after))
+            (all_weaker (λ (k : ℕ). Avoid (entries kept.tree) k) (λ (k : ℕ). slot_at after k ≡ slot_at s k)
+            (λ k lacks. let parts = without_old k lacks in other_slot k parts.0 ∙ out.beside k parts.1) kept.freed all_apart)),
+      );
       apart = (all_weaker (λ (k : ℕ). Avoid (entries kept.tree) k) (λ (k : ℕ). k ≢ x.node) (λ k lacks e. (without_old k lacks).0 (sym e)) kept.freed all_apart, kept.apart);
       spare_is = omega (arith, kept.spare_is);
       counted = omega (arith, shorter, kept.counted, long_after);

@@ -79,7 +79,9 @@ module _ (s : List Slot) (i : ℕ) (L : Tree) (e : Entry) (R : Tree) (few : IsFe
 
 -- the left side of the least node is empty
 pub least_itself : (s : List Slot) (i : ℕ) → (slot_at s i).left ≡ NONE → IsLeastTaken s s i (record { root = (slot_at s i).right; node = i })
-least_itself s i none leaf e R few = (R, record {
+least_itself s i none leaf e R few = (
+  R,
+  record {
     tree = (few_right s i leaf e R few).tree;
     long = refl;
     least = e;
@@ -89,7 +91,8 @@ least_itself s i none leaf e R few = (R, record {
     one_lower = omega arith;
     beside = λ j lacks. refl;
     few = unchanged (3 * height (fork leaf e R)) s;
-  })
+  },
+)
 least_itself s i none (fork A x B) e R few =
     let left = (few_left s i (fork A x B) e R few).tree in
     absurd (omega (arith, none, left.root, left.shown.0, left.fits))

@@ -40,7 +40,7 @@ module _ (s : List Slot) (a b : ℕ) (l r : Tree) (m : AreMergeable s a b l r) w
     apart =
         all_both (HasItsGap s) (λ (y : Entry). is_before y.gap E.gap ≡ true) (λ (y : Entry). Avoid (entries u) y.number)
         (λ y own before.
-            other_number s (λ g. is_before E.gap g) (entries u) y.number gaps.1 cut.behind (ap (λ g. is_before E.gap g) own ∙ before_both y.gap E.gap before))
+        other_number s (λ g. is_before E.gap g) (entries u) y.number gaps.1 cut.behind (ap (λ g. is_before E.gap g) own ∙ before_both y.gap E.gap before))
         (entries l) (shown_gaps s l m.left.shown) cut.before
 
     own : entry_at z x.node ≡ E
@@ -117,7 +117,9 @@ module _ (s : List Slot) (a b : ℕ) (l r : Tree) (m : AreMergeable s a b l r) w
 ---- Where the right tree is empty, or not
 
 pub merged_left : (s : List Slot) (a b : ℕ) → b ≡ NONE → IsMerged s s a b a
-merged_left s a b none l leaf m = (l, record {
+merged_left s a b none l leaf m = (
+  l,
+  record {
     tree = m.left;
     long = refl;
     holds = sym (append-nil (entries l));
@@ -125,7 +127,8 @@ merged_left s a b none l leaf m = (l, record {
     one_higher = omega arith;
     beside = λ j lacks. refl;
     few = unchanged (3 * suc (max (height l) 0)) s;
-  })
+  },
+)
 merged_left s a b none l (fork A x B) m = absurd (omega (arith, none, m.right.root, m.right.shown.0, m.right.fits))
 
 module _ (s : List Slot) (a b : ℕ) (some : b ≢ NONE) where

@@ -31,10 +31,14 @@ new_none s e = subst (λ (z : List Slot). AreNew z NONE 0) (sym e) (record { cha
 pub new_more : (s z : List Slot) (free n : ℕ) → AreNew s free n → z ≡ s ++ record { at = 0; left = free; right = NONE; units = 0; height = 0 } ∷ [] → AreNew z n (n + 1)
 new_more s z free n new e = subst (λ (y : List Slot). AreNew y n (n + 1)) (sym e) (record {
   chain = n ∷ new.chain;
-  are_free = (refl, omega (arith, longer, new.long), ap (λ (v : Slot). v.height) last,
+  are_free = (
+    refl,
+    omega (arith, longer, new.long),
+    ap (λ (v : Slot). v.height) last,
     subst (λ i. AreFree all i new.chain) (sym (ap (λ (v : Slot). v.left) last))
-    (keep_free s all free new.chain new.are_free (omega (arith, longer))
-      (all_weaker (λ (k : ℕ). k < n) (λ (k : ℕ). slot_at all k ≡ slot_at s k) (λ k low. get_or-append s (x ∷ []) _ k (omega (arith, low, new.long))) new.chain new.below)));
+        (keep_free s all free new.chain new.are_free (omega (arith, longer))
+        (all_weaker (λ (k : ℕ). k < n) (λ (k : ℕ). slot_at all k ≡ slot_at s k) (λ k low. get_or-append s (x ∷ []) _ k (omega (arith, low, new.long))) new.chain new.below)),
+  );
   apart = (all_weaker (λ (k : ℕ). k < n) (λ (k : ℕ). k ≢ n) (λ k low same. omega (arith, low, same)) new.chain new.below, new.apart);
   below = (omega arith, all_weaker (λ (k : ℕ). k < n) (λ (k : ℕ). k < n + 1) (λ k low. omega arith) new.chain new.below);
   count = omega (arith, new.count);

@@ -48,9 +48,9 @@ any_between test (x ∷ a) g b = ap (λ r. test x || r) (any_between test a g b)
 
 pub put_between : (a : List Gap) (g : Gap) (b : List Gap) → of (a ++ g ∷ b) ≡ set.insert (of (a ++ b)) g
 put_between a g b = set.same_set gap_cmp_total tells_gaps _ _ (λ q.
-  set.contains-from_list gap_cmp_total (a ++ g ∷ b) q
-  ∙ any_between (same q) a g b
-  ∙ sym (set.contains-insert gap_cmp_total (of (a ++ b)) g q ∙ ap (λ r. same q g || r) (set.contains-from_list gap_cmp_total (a ++ b) q)))
+    set.contains-from_list gap_cmp_total (a ++ g ∷ b) q
+    ∙ any_between (same q) a g b
+    ∙ sym (set.contains-insert gap_cmp_total (of (a ++ b)) g q ∙ ap (λ r. same q g || r) (set.contains-from_list gap_cmp_total (a ++ b) q)))
 
 pub contained : (a : List Gap) (g : Gap) (b : List Gap) → set.contains (of (a ++ g ∷ b)) g ≡ true
 contained a g b =

@@ -128,18 +128,24 @@ module _ (s : List Slot) (i : ℕ) (L : Tree) (e : Entry) (R : Tree) (tree : IsT
 
   -- the numbers of the node and of its right side are none of the left side's
   pub right_apart : AllByRecursion (λ x. Avoid (entries L) x.number) (e ∷ entries R)
-  right_apart = (node_alone.front, all_both (HasItsGap s) (λ x. is_before e.gap x.gap ≡ true) (λ x. Avoid (entries L) x.number)
-    (λ x own behind.
+  right_apart = (
+    node_alone.front,
+    all_both (HasItsGap s) (λ x. is_before e.gap x.gap ≡ true) (λ x. Avoid (entries L) x.number)
+        (λ x own behind.
         other_number s (λ g. is_before g e.gap) (entries L) x.number (shown_gaps s L tree.shown.2) all_before
         (ap (λ g. is_before g e.gap) own ∙ before_both e.gap x.gap behind))
-    (entries R) (shown_gaps s R tree.shown.3) all_behind)
+        (entries R) (shown_gaps s R tree.shown.3) all_behind,
+  )
 
   pub left_apart : AllByRecursion (λ x. Avoid (entries R) x.number) (e ∷ entries L)
-  left_apart = (node_alone.back, all_both (HasItsGap s) (λ x. is_before x.gap e.gap ≡ true) (λ x. Avoid (entries R) x.number)
-    (λ x own before.
+  left_apart = (
+    node_alone.back,
+    all_both (HasItsGap s) (λ x. is_before x.gap e.gap ≡ true) (λ x. Avoid (entries R) x.number)
+        (λ x own before.
         other_number s (λ g. is_before e.gap g) (entries R) x.number (shown_gaps s R tree.shown.3) all_behind
         (ap (λ g. is_before e.gap g) own ∙ before_both x.gap e.gap before))
-    (entries L) (shown_gaps s L tree.shown.2) all_before)
+        (entries L) (shown_gaps s L tree.shown.2) all_before,
+  )
 
   module _ (z : List Slot) (j : ℕ) (u : Tree) (new : IsTreeAt z j u) (long : length z ≡ length s) (same : IsSameBeside (entries u) s z) (low : height u < 254) where
     stays : (t : Tree) → IsTreeAt s (root_of t) t → AllByRecursion (λ x. Avoid (entries u) x.number) (entries t) → IsTreeAt z (root_of t) t

@@ -60,8 +60,8 @@ module _ (s : List Slot) (i : ℕ) (g : ℕ × ℕ) (L : Tree) (e : Entry) (R : 
       apart =
           all_weaker (λ (y : Entry). Avoid (entries L) y.number) (λ (y : Entry). Avoid (entries u) y.number)
           (λ y lacks.
-              subst (λ es. Avoid es y.number) (sym out.holds)
-              (all_drop (λ (n : Entry). n.number ≢ y.number) out.front X out.back (subst (λ es. Avoid es y.number) out.was lacks)))
+          subst (λ es. Avoid es y.number) (sym out.holds)
+          (all_drop (λ (n : Entry). n.number ≢ y.number) out.front X out.back (subst (λ es. Avoid es y.number) out.was lacks)))
           (e ∷ entries R) (right_apart s i L e R tree)
 
       before : AreBefore (entries u) e.gap
@@ -119,8 +119,8 @@ module _ (s : List Slot) (i : ℕ) (g : ℕ × ℕ) (L : Tree) (e : Entry) (R : 
       apart_right =
           all_weaker (λ (y : Entry). Avoid (entries R) y.number) (λ (y : Entry). Avoid (entries u) y.number)
           (λ y lacks.
-              subst (λ es. Avoid es y.number) (sym out.holds)
-              (all_drop (λ (n : Entry). n.number ≢ y.number) out.front X out.back (subst (λ es. Avoid es y.number) out.was lacks)))
+          subst (λ es. Avoid es y.number) (sym out.holds)
+          (all_drop (λ (n : Entry). n.number ≢ y.number) out.front X out.back (subst (λ es. Avoid es y.number) out.was lacks)))
           (e ∷ entries L) (left_apart s i L e R tree)
 
       behind : AreBehind (entries u) e.gap

@@ -34,7 +34,7 @@ pub changed : (s z : List Slot) (root reserved j other : ℕ) (t : Tree) (x : Ga
 changed s z root reserved j other t x tree e few =
     subst (λ (y : GapTree). DifferInAtMost (3 * root_height y + 4) y (seen_as z j other)) e
     (differ (3 * height t + 1) (3 * root_height (seen_as s root reserved) + 4) s z root reserved j other few
-      (let own = height_seen s root reserved t tree in omega (arith, own)))
+    (let own = height_seen s root reserved t tree in omega (arith, own)))
 
 module _ (s : List Slot) (root free spare reserved : ℕ) (x : GapTree) (kept : IsKept s root free spare) (view : seen_as s root reserved ≡ x) (g : ℕ × ℕ) where
   ---- A gap is put in

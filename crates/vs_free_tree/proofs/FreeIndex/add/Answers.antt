@@ -35,7 +35,7 @@ invariant_of-self c =
     c.index.ensures (record { at = 0; left = 0; right = 0; units = 0; height = 0 }) in
     subst (λ (s : List Slot). IsKept s c.insert-self-inside.result c.index.result.now.left (c.self.inside.spare - 1)) (sym (written c.self.inside.nodes.len items new c.self.inside.nodes.ok.0 long))
     (subst (λ n. IsKept new c.insert-self-inside.result n (c.self.inside.spare - 1)) (sym (ap (λ (v : Slot). v.left) next))
-      (put_keeps items c.self.inside.root c.self.inside.free c.self.inside.spare (vec_capacity c.self.inside.nodes) c.args.self.now c.self.invariant c.self.view_is g c.requires.room c.requires.absent new c.insert-self-inside.result inserted))
+    (put_keeps items c.self.inside.root c.self.inside.free c.self.inside.spare (vec_capacity c.self.inside.nodes) c.args.self.now c.self.invariant c.self.view_is g c.requires.room c.requires.absent new c.insert-self-inside.result inserted))
 
 pub returns-clause-gaps : goal.returns-clause-gaps
 returns-clause-gaps c =

@@ -53,7 +53,7 @@ invariant_of-self-2 c =
     let all = written c.self.inside.nodes.len items new c.self.inside.nodes.ok.0 long in
     subst (λ (s : List Slot). IsKept (set_slot s x.node c.free.result) x.root x.node (c.self.inside.spare + 1)) (sym all)
     (subst (λ (v : Slot). IsKept (set_slot new x.node v) x.root x.node (c.self.inside.spare + 1)) (sym c.free.ensures)
-      (out_keeps items c.self.inside.root c.self.inside.free c.self.inside.spare (vec_capacity c.self.inside.nodes) c.args.self.now c.self.invariant c.self.view_is g new x out))
+    (out_keeps items c.self.inside.root c.self.inside.free c.self.inside.spare (vec_capacity c.self.inside.nodes) c.args.self.now c.self.invariant c.self.view_is g new x out))
 
 pub returns-clause-found : goal.returns-clause-found
 returns-clause-found c =
@@ -72,7 +72,7 @@ returns-clause-gaps c =
     let all = written c.self.inside.nodes.len items new c.self.inside.nodes.ok.0 long in
     same_but _ _ _ _ _ _ _ _
     (ap (λ (s : List Slot). gaps_under (set_slot s x.node c.free.result) x.root) all ∙ ap (λ (v : Slot). gaps_under (set_slot new x.node v) x.root) c.free.ensures
-      ∙ out_gaps items c.self.inside.root c.self.inside.free c.self.inside.spare (vec_capacity c.self.inside.nodes) c.args.self.now c.self.invariant c.self.view_is g new x out)
+    ∙ out_gaps items c.self.inside.root c.self.inside.free c.self.inside.spare (vec_capacity c.self.inside.nodes) c.args.self.now c.self.invariant c.self.view_is g new x out)
     (ap (λ (s : List Slot). length (set_slot s x.node c.free.result)) all ∙ length-set new x.node c.free.result ∙ long ∙ ap (λ (x : GapTree). x.capacity) c.self.view_is)
     (ap (λ (x : GapTree). x.reserved) c.self.view_is)
 
@@ -87,4 +87,4 @@ returns-clause-changed c =
     let all = written c.self.inside.nodes.len items new c.self.inside.nodes.ok.0 long in
     subst (λ (s : List Slot). DifferInAtMost (3 * root_height c.args.self.now + 4) c.args.self.now (seen_as (set_slot s x.node c.free.result) x.root (vec_capacity c.self.inside.nodes))) (sym all)
     (subst (λ (v : Slot). DifferInAtMost (3 * root_height c.args.self.now + 4) c.args.self.now (seen_as (set_slot new x.node v) x.root (vec_capacity c.self.inside.nodes))) (sym c.free.ensures)
-      (out_changes items c.self.inside.root c.self.inside.free c.self.inside.spare (vec_capacity c.self.inside.nodes) c.args.self.now c.self.invariant c.self.view_is g new x out (vec_capacity c.self.inside.nodes)))
+    (out_changes items c.self.inside.root c.self.inside.free c.self.inside.spare (vec_capacity c.self.inside.nodes) c.args.self.now c.self.invariant c.self.view_is g new x out (vec_capacity c.self.inside.nodes)))

@@ -6,9 +6,10 @@ use Rattle.vs_free_tree.proofs.TakenOut.{left_of, right_of, left_lower, right_lo
 use Rattle.vs_free_tree.proofs.removal.+take_out.Goals as goal
 
 pub take_out-requires : goal.take_out-requires
-take_out-requires t c =
-    (rw (← c.decreases) (left_lower c.args.nodes.now c.args.root c.args.gap c.if-root-eq-NONE.false c.requires),
-      left_of c.args.nodes.now c.args.root c.args.gap c.if-root-eq-NONE.false c.requires)
+take_out-requires t c = (
+  rw (← c.decreases) (left_lower c.args.nodes.now c.args.root c.args.gap c.if-root-eq-NONE.false c.requires),
+  left_of c.args.nodes.now c.args.root c.args.gap c.if-root-eq-NONE.false c.requires,
+)
 
 pub returns-in_err-rest : goal.returns-in_err-rest
 returns-in_err-rest t c =
@@ -24,16 +25,17 @@ returns-then-comes_before t c =
     taken_left_of c.args.nodes.now c.args.root c.args.gap c.if-root-eq-NONE.false c.take_out.new.nodes c.in_ok-rest.rest c.join.new.nodes c.join.result c.in_ok-rest.ensures c.join.ensures
 
 pub take_out-requires-then-comes_before-2 : goal.take_out-requires-then-comes_before-2
-take_out-requires-then-comes_before-2 t c =
-    (rw (← c.decreases) (right_lower c.args.nodes.now c.args.root c.args.gap c.if-root-eq-NONE.false c.requires),
-      right_of c.args.nodes.now c.args.root c.args.gap c.if-root-eq-NONE.false c.requires)
+take_out-requires-then-comes_before-2 t c = (
+  rw (← c.decreases) (right_lower c.args.nodes.now c.args.root c.args.gap c.if-root-eq-NONE.false c.requires),
+  right_of c.args.nodes.now c.args.root c.args.gap c.if-root-eq-NONE.false c.requires,
+)
 
 pub returns-in_err-rest-2 : goal.returns-in_err-rest-2
 returns-in_err-rest-2 t c =
     subst (λ (r : Option Taken). IsTakenOut c.args.nodes.now c.take_out-then-comes_before-2.new.nodes c.args.root c.args.gap r)
     (sym c.from_residual-in_err-rest-2.ensures)
     (lacks_right_of c.args.nodes.now c.args.root c.args.gap c.if-root-eq-NONE.false c.take_out-then-comes_before-2.new.nodes
-      (sym c.comes_before-2.ensures ∙ c.if-comes_before-2.true) c.in_err-rest-2.ensures)
+    (sym c.comes_before-2.ensures ∙ c.if-comes_before-2.true) c.in_err-rest-2.ensures)
 
 pub join-requires-then-comes_before-2 : goal.join-requires-then-comes_before-2
 join-requires-then-comes_before-2 t c =

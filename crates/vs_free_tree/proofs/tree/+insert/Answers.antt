@@ -11,9 +11,10 @@ returns-then-root-eq-NONE t c =
     inserted_none c.args.nodes.now c.args.root c.args.gap c.args.fresh c.requires.1.tree.fits c.if-root-eq-NONE.true
 
 pub insert-left-requires : goal.insert-left-requires
-insert-left-requires t c =
-    (rw (← c.decreases) (left_lower c.args.nodes.now c.args.root c.args.gap c.args.fresh c.if-root-eq-NONE.false c.requires),
-      left_of c.args.nodes.now c.args.root c.args.gap c.args.fresh c.if-root-eq-NONE.false c.requires)
+insert-left-requires t c = (
+  rw (← c.decreases) (left_lower c.args.nodes.now c.args.root c.args.gap c.args.fresh c.if-root-eq-NONE.false c.requires),
+  left_of c.args.nodes.now c.args.root c.args.gap c.args.fresh c.if-root-eq-NONE.false c.requires,
+)
 
 pub join-requires : goal.join-requires
 join-requires t c =
@@ -26,9 +27,10 @@ returns-then-comes_before t c =
     (sym c.comes_before.ensures ∙ c.if-comes_before.true) c.insert-left.ensures c.join.ensures
 
 pub insert-right-requires : goal.insert-right-requires
-insert-right-requires t c =
-    (rw (← c.decreases) (right_lower c.args.nodes.now c.args.root c.args.gap c.args.fresh c.if-root-eq-NONE.false c.requires),
-      right_of c.args.nodes.now c.args.root c.args.gap c.args.fresh c.if-root-eq-NONE.false c.requires)
+insert-right-requires t c = (
+  rw (← c.decreases) (right_lower c.args.nodes.now c.args.root c.args.gap c.args.fresh c.if-root-eq-NONE.false c.requires),
+  right_of c.args.nodes.now c.args.root c.args.gap c.args.fresh c.if-root-eq-NONE.false c.requires,
+)
 
 pub join-requires-2 : goal.join-requires-2
 join-requires-2 t c =
