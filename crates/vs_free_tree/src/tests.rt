@@ -1,5 +1,5 @@
 use super::*;
-use rand_core::RngCore;
+use rand_core::Rng;
 use rand_pcg::Pcg32;
 use std::collections::BTreeSet;
 use std::test::Fail;
@@ -72,7 +72,7 @@ fn agrees_with_a_set(rt: HostRuntime) -> Result<(), Fail> {
         let draw = draws.next_u32();
         let (units, at) = ((2 + draw % 16) as u16, draw / 16 % 64);
         let was_there = index.remove(units, at);
-        assert_eq!(rt; was_there, set.remove((units, at)), "{units} at {at}");
+        assert_eq!(rt; was_there, set.remove(&(units, at)), "{units} at {at}");
         if !was_there {
             assert!(rt; put(&mut index, units, at), "{units} at {at}");
             set.insert((units, at))?;
