@@ -1,124 +1,231 @@
--- What an index keeps over each call, and what it answers.
-use Rattle.std.proofs.Common.{◌≡◌, ℕ, ◌<◌, ◌≤◌, inl, inr, Bool, true, false, ◌&&◌, List, [], length, get_or, Option, Some, None, refl, sym, ap, subst, ◌∙◌, arith, true≢false, ltb, eqb}
-use Rattle.std.specs.List.{insert, remove, HoldsAt}
-use Rattle.std.specs.Option.{MatchOption, option_copied}
-use Rattle.std.proofs.lemmas.Bool.{and_parts, ltb-true, cases_lt, eqb-true}
-use Rattle.std.proofs.lemmas.Bool.Decides.{nat_tests}
-use Rattle.std.proofs.lemmas.List.Edits.{length-insert, length-remove}
-use Rattle.std.specs.FinSet as set
-use denote.Ref.{Bor}
-use Rattle.vs_free_tree.specs.Gaps.{gap_cmp, Gaps, GapIndex, IsUpTo, NoneFits, IsBest}
-use Rattle.vs_free_tree.specs.Sorted.{index_of, is_before, holds_at, IsRising, IsKept, IsPlaceOf}
-use Rattle.vs_free_tree.proofs.SetLemmas.{inserted, insert_counts, untouched, removed, StandsAt, stands_at, held_at}
-use Rattle.vs_free_tree.proofs.PlaceLemmas.{up_to_if_not_before, not_before_itself, both_up_to, rising_insert, rising_remove}
+-- What the index keeps over each call.
+use Rattle.std.proofs.Common.{◌≡◌, ◌≢◌, ℕ, zero, suc, ◌+◌, ◌-◌, ◌*◌, ◌^◌, ◌<◌, ◌≤◌, true, false, inl, inr, List, [], ◌∷◌, ◌++◌, length, set, refl, sym, ap, subst, ◌∙◌, arith, length-append, length-set, get_or-set_same, get_or-set_other}
+use Rattle.std.specs.List.{AllByRecursion}
+use Rattle.std.specs.FinSet as finset
+use Rattle.std.proofs.lemmas.Bool.{cases_eq}
+use Rattle.vs_free_tree.specs.declared.tree.Slot.{Slot}
+use Rattle.vs_free_tree.specs.declared.tree.TheConstants.{NONE}
+use Rattle.vs_free_tree.specs.declared.removal.Taken.{Taken}
+use Rattle.vs_free_tree.specs.Tree.{Entry, Tree, leaf, fork, entries, height, Avoid, AreRising}
+use Rattle.vs_free_tree.specs.Slots.{slot_at, height_at, gap_at, Show, IsTreeAt, ChangeAtMost, CanInsertInto, Inserts, IsFewTreeAt, TakesOut}
+use Rattle.vs_free_tree.specs.Kept.{gaps_under, AreFree, AreApart, IsKept}
+use Rattle.vs_free_tree.proofs.EntryLemmas.{all_split, all_join, all_weaker, all_both, all_put, all_drop}
+use Rattle.vs_free_tree.proofs.SlotLemmas.{shown_heights, shown_gaps, shown_within, HasItsGap, IsAlone, alone, keep}
+use Rattle.vs_free_tree.proofs.Sides.{change_then}
+use Rattle.vs_free_tree.proofs.GapLemmas.{gaps_of, counted, lack_if_absent, of_put, of_held, of_taken}
+use Rattle.vs_free_tree.proofs.SeenLemmas.{gaps_told}
 
-abbrev Gap : Type 0
-Gap = ℕ × ℕ
+---- The free nodes
 
-abbrev of : List Gap → Gaps
-of gs = set.from_list gs
+pub record HasFree (s : List Slot) (i : ℕ) (ks : List ℕ) : Type 0 where
+  pub rest : List ℕ
+  pub is : ks ≡ i ∷ rest
+  pub within : i < length s
+  pub zero_high : height_at s i ≡ 0
+  pub behind : AreFree s (slot_at s i).left rest
 
-pub kept_empty : (gs : List Gap) (reserved capacity : ℕ) → gs ≡ [] → capacity ≤ reserved → IsKept gs reserved capacity
-kept_empty gs reserved capacity e r = subst (λ xs. IsKept xs reserved capacity) (sym e) (record {
-  rising = λ i j d low within. absurd (omega arith);
-  distinct = set.len-empty gap_cmp;
-  room = omega arith;
-  reserved_is = r;
-})
+has_free : (s : List Slot) (i : ℕ) (ks : List ℕ) → AreFree s i ks → 0 < length ks → HasFree s i ks
+has_free s i [] f some = absurd (omega arith)
+has_free s i (k ∷ ks) f some = record {
+  rest = ks;
+  is = ap (λ (n : ℕ). n ∷ ks) (sym f.0);
+  within = omega (arith, f.0, f.1);
+  zero_high = ap (height_at s) f.0 ∙ f.2;
+  behind = subst (λ n. AreFree s (slot_at s n).left ks) (sym f.0) f.3;
+}
 
-module _ (gs : List Gap) (n : ℕ) (g : Gap) (reserved capacity : ℕ) (kept : IsKept gs reserved capacity) where
-  pub kept_insert : IsPlaceOf g gs n → length gs < capacity → set.contains (of gs) g ≡ false → IsKept (insert gs n g) reserved capacity
-  kept_insert p room absent =
-      let longer = length-insert gs n g p.within in
-      record {
-        rising = rising_insert gs n g kept.rising p;
-        distinct = ap set.len (inserted gs n g) ∙ insert_counts (of gs) g absent ∙ omega (arith, kept.distinct, longer);
-        room = omega (arith, longer);
-        reserved_is = kept.reserved_is;
+free_low : (s : List Slot) (i : ℕ) (ks : List ℕ) → AreFree s i ks → AllByRecursion (λ k. height_at s k ≡ 0) ks
+free_low s i [] f = tt
+free_low s i (k ∷ ks) f = (f.2, free_low s (slot_at s k).left ks f.3)
+
+pub keep_free : (s z : List Slot) (i : ℕ) (ks : List ℕ) → AreFree s i ks → length s ≤ length z → AllByRecursion (λ k. slot_at z k ≡ slot_at s k) ks → AreFree z i ks
+keep_free s z i [] f long same = f
+keep_free s z i (k ∷ ks) f long same = (
+  f.0,
+  omega (arith, f.1, long),
+  ap (λ (x : Slot). x.height) same.0 ∙ f.2,
+  subst (λ n. AreFree z n ks) (sym (ap (λ (x : Slot). x.left) same.0)) (keep_free s z (slot_at s k).left ks f.3 long same.1),
+)
+
+-- a free node is none of the tree's
+free_apart : (s : List Slot) (t : Tree) (k : ℕ) → Show s t → height_at s k ≡ 0 → Avoid (entries t) k
+free_apart s t k sh low =
+    all_weaker (λ (x : Entry). height_at s x.number ≢ 0) (λ (x : Entry). x.number ≢ k) (λ x some same. some (ap (height_at s) same ∙ low)) (entries t) (shown_heights s t sh)
+
+module _ (s : List Slot) (root free spare : ℕ) (kept : IsKept s root free spare) where
+  tree : Tree
+  tree = kept.tree
+
+  pub gaps_are : gaps_under s root ≡ gaps_of (entries kept.tree)
+  gaps_are = gaps_told s root kept.tree kept.is_tree
+
+  pub total : spare + finset.len (gaps_under s root) ≡ length s
+  total = omega (arith, ap finset.len gaps_are, counted (entries kept.tree) kept.is_tree.rising, kept.counted)
+
+  all_apart : AllByRecursion (λ k. Avoid (entries kept.tree) k) kept.freed
+  all_apart =
+      all_weaker (λ (k : ℕ). height_at s k ≡ 0) (λ (k : ℕ). Avoid (entries kept.tree) k) (λ k low. free_apart s kept.tree k kept.is_tree.shown low) kept.freed
+      (free_low s free kept.freed kept.are_free)
+
+  ---- A gap is put in
+
+  module _ (some : 0 < spare) where
+    pub first : HasFree s free kept.freed
+    first = has_free s free kept.freed kept.are_free (omega (arith, kept.spare_is))
+
+    rest_apart : AllByRecursion (λ k. k ≢ free) first.rest × AreApart first.rest
+    rest_apart = subst AreApart first.is kept.apart
+
+    pub can_insert : (g : ℕ × ℕ) → finset.contains (gaps_under s root) g ≡ false → CanInsertInto s root g free kept.tree
+    can_insert g absent = record {
+      tree = kept.is_tree;
+      few = omega (arith, kept.counted, kept.is_tree.fits);
+      within = first.within;
+      free = first.zero_high;
+      absent = lack_if_absent (entries kept.tree) g (sym (ap (λ s. finset.contains s g) gaps_are) ∙ absent);
+    }
+
+    module _ (g : ℕ × ℕ) (z : List Slot) (j : ℕ) (u : Tree) (put : Inserts s z g free kept.tree j u) where
+      abbrev X : Entry
+      X = record { number = free; gap = g }
+
+      with_new : (k : ℕ) → free ≢ k → Avoid (entries kept.tree) k → Avoid (entries u) k
+      with_new k other lacks =
+          subst (λ es. Avoid es k) (sym put.holds) (all_put (λ (y : Entry). y.number ≢ k) put.front X put.back other (subst (λ es. Avoid es k) put.was lacks))
+
+      without_new : (k : ℕ) → Avoid (entries u) k → Avoid (entries kept.tree) k
+      without_new k lacks =
+          subst (λ es. Avoid es k) (sym put.was) (all_drop (λ (y : Entry). y.number ≢ k) put.front X put.back (subst (λ es. Avoid es k) put.holds lacks))
+
+      longer : length (entries u) ≡ length (entries kept.tree) + 1
+      longer = omega (arith, ap length put.holds, ap length put.was, length-append put.front (X ∷ put.back), length-append put.front put.back)
+
+      pub kept_put : IsKept z j (slot_at s free).left (spare - 1)
+      kept_put = record {
+        tree = u;
+        is_tree = put.tree;
+        others = λ k lacks. ap (λ (x : Slot). x.height) (put.beside k lacks) ∙ kept.others k (without_new k lacks);
+        freed = first.rest;
+        are_free =
+            keep_free s z (slot_at s free).left first.rest first.behind (omega (arith, put.long))
+            (all_both (λ (k : ℕ). k ≢ free) (λ (k : ℕ). Avoid (entries kept.tree) k) (λ (k : ℕ). slot_at z k ≡ slot_at s k)
+            (λ k other lacks. put.beside k (with_new k (λ e. other (sym e)) lacks)) first.rest rest_apart.0
+            (subst (AllByRecursion (λ k. Avoid (entries kept.tree) k)) first.is all_apart).1);
+        apart = rest_apart.1;
+        spare_is = omega (arith, kept.spare_is, ap length first.is);
+        counted = omega (arith, longer, kept.counted, put.long);
       }
 
-  pub kept_remove : n < length gs → g ≡ get_or gs n g → IsKept (remove gs n) reserved capacity
-  kept_remove inside at = record {
-    rising = rising_remove gs n kept.rising inside;
-    distinct = (removed gs n g inside at kept.distinct).distinct;
-    room = omega (arith, length-remove gs n inside, kept.room);
-    reserved_is = kept.reserved_is;
-  }
+      pub gaps_put : gaps_under z j ≡ finset.insert (gaps_under s root) g
+      gaps_put =
+          gaps_told z j u put.tree
+          ∙ ap gaps_of put.holds
+          ∙ of_put put.front X put.back
+          ∙ ap (λ (es : List Entry). finset.insert (gaps_of es) g) (sym put.was)
+          ∙ ap (λ s. finset.insert s g) (sym gaps_are)
 
-  pub index_insert : index_of (insert gs n g) capacity ≡ record { gaps = set.insert (of gs) g; capacity = capacity }
-  index_insert = ap (λ (s : Gaps). let x : GapIndex = record { gaps = s; capacity = capacity } in x) (inserted gs n g)
+  ---- A gap is taken out
 
-  pub index_remove : n < length gs → g ≡ get_or gs n g → index_of (remove gs n) capacity ≡ record { gaps = set.remove (of gs) g; capacity = capacity }
-  index_remove inside at =
-      ap (λ (s : Gaps). let x : GapIndex = record { gaps = s; capacity = capacity } in x) (removed gs n g inside at kept.distinct).rest
+  pub few_tree : IsFewTreeAt s root kept.tree
+  few_tree = record { tree = kept.is_tree; few = omega (arith, kept.counted, kept.is_tree.fits) }
 
-  pub held : n < length gs → g ≡ get_or gs n g → set.contains (of gs) g ≡ true
-  held inside at = held_at gs n g g inside (sym at)
+  module _ (g : ℕ × ℕ) (z : List Slot) (x : Taken) (u : Tree) (out : TakesOut s z g kept.tree x u) where
+    abbrev Y : Entry
+    Y = record { number = x.node; gap = g }
 
-pub index_untouched : (x : GapIndex) (g : Gap) → set.contains x.gaps g ≡ false → x ≡ record { gaps = set.remove x.gaps g; capacity = x.capacity }
-index_untouched x g absent = ap (λ (s : Gaps). let y : GapIndex = record { gaps = s; capacity = x.capacity } in y) (sym (untouched x.gaps g absent))
+    abbrev freed_slot : Slot
+    freed_slot = record { at = 0; left = free; right = NONE; units = 0; height = 0 }
 
--- a pair that stands at a place
-pub at_place : (g : Gap) (gs : List Gap) (n : ℕ) → holds_at g gs n ≡ true → (n < length gs) × (g ≡ get_or gs n g)
-at_place g gs n e =
-    let outer = and_parts (ltb n (length gs) && eqb (get_or gs n g).0 g.0) (eqb (get_or gs n g).1 g.1) e in
-    let inner = and_parts (ltb n (length gs)) (eqb (get_or gs n g).0 g.0) outer.0 in
-    (ltb-true n (length gs) inner.0, same_parts g (get_or gs n g) (sym (eqb-true _ _ inner.1)) (sym (eqb-true _ _ outer.1)))
-  where
-    same_parts : (a b : Gap) → a.0 ≡ b.0 → a.1 ≡ b.1 → a ≡ b
-    same_parts a b e f i = (e i, f i)
+    abbrev after : List Slot
+    after = set z x.node freed_slot
 
-stands_if : (g : Gap) (gs : List Gap) (n : ℕ) → n < length gs → get_or gs n g ≡ g → holds_at g gs n ≡ true
-stands_if g gs n l e = grind (arith, nat_tests, ap (λ (h : Gap). h.0) e, ap (λ (h : Gap). h.1) e)
+    rising : AreRising (out.front ++ Y ∷ out.back)
+    rising = subst AreRising out.was kept.is_tree.rising
 
-module _ (gs : List Gap) (n : ℕ) (g : Gap) (up : IsRising gs) (p : IsPlaceOf g gs n) where
-  -- a gap that does not come before g stands from its place on
-  from_place : (h : Gap) (s : StandsAt gs h) → is_before h g ≡ false → n ≤ s.place
-  from_place h s other = elim (cases_lt s.place n) [
-    | inl l ↦ absurd (true≢false (sym (p.before s.place g (omega arith) l) ∙ ap (λ x. is_before x g) (s.is g) ∙ other))
-    | inr l ↦ l
-  ]
+    -- the number is none of the new tree's
+    gone : Avoid (entries u) x.node
+    gone =
+        let it = alone s out.front Y out.back rising (subst (AllByRecursion (HasItsGap s)) out.was (shown_gaps s kept.tree kept.is_tree.shown)) in
+        subst (λ es. Avoid es x.node) (sym out.holds) (all_join (λ (y : Entry). y.number ≢ x.node) out.front out.back it.front it.back)
 
-  -- what stands at the place is the least that does not come before g
-  least_at : (h : Gap) (d : Gap) → set.contains (of gs) h ≡ true → is_before h g ≡ false → IsUpTo (get_or gs n d) h
-  least_at h d in_set other =
-      let s = stands_at gs h in_set in
-      subst (IsUpTo (get_or gs n d)) (s.is d) (up n s.place d (from_place h s other) s.within)
+    pub node_within : x.node < length s
+    node_within =
+        (all_split (λ (y : Entry). y.number < length s) out.front (Y ∷ out.back) (subst (AllByRecursion (λ (y : Entry). y.number < length s)) out.was (shown_within s kept.tree kept.is_tree.shown))).1.0
 
-  none_past : length gs ≤ n → (h : Gap) → set.contains (of gs) h ≡ true → is_before h g ≡ false → ⊥
-  none_past past h in_set other =
-      let s = stands_at gs h in_set in
-      absurd (omega (arith, from_place h s other, s.within))
+    with_old : (k : ℕ) → x.node ≢ k → Avoid (entries u) k → Avoid (entries kept.tree) k
+    with_old k other lacks =
+        subst (λ es. Avoid es k) (sym out.was) (all_put (λ (y : Entry). y.number ≢ k) out.front Y out.back other (subst (λ es. Avoid es k) out.holds lacks))
 
-  pub stands_at_place : set.contains (of gs) g ≡ true → holds_at g gs n ≡ true
-  stands_at_place in_set = elim (cases_lt n (length gs)) [
-    | inl l ↦
-        stands_if g gs n l (both_up_to _ _ (least_at g g in_set (not_before_itself g)) (up_to_if_not_before _ g (p.behind n g (omega arith) l)))
-    | inr l ↦ absurd (none_past l g in_set (not_before_itself g))
-  ]
+    without_old : (k : ℕ) → Avoid (entries kept.tree) k → (x.node ≢ k) × Avoid (entries u) k
+    without_old k lacks =
+        let all = subst (λ es. Avoid es k) out.was lacks in (
+          (all_split (λ (y : Entry). y.number ≢ k) out.front (Y ∷ out.back) all).1.0,
+          subst (λ es. Avoid es k) (sym out.holds) (all_drop (λ (y : Entry). y.number ≢ k) out.front Y out.back all),
+        )
 
-  pub absent_from : holds_at g gs n ≡ false → set.contains (of gs) g ≡ false
-  absent_from other = by (set.contains (of gs) g) refl
-    where
-      by : (b : Bool) → set.contains (of gs) g ≡ b → set.contains (of gs) g ≡ false
-      by true e = absurd (true≢false (sym (stands_at_place e) ∙ other))
-      by false e = e
+    long_after : length after ≡ length s
+    long_after = length-set z x.node freed_slot ∙ out.long
 
--- a gap fits exactly if it does not come before the least pair of so many units
-fits_if : (h : Gap) (units : ℕ) → units ≤ h.0 → is_before h (units, 0) ≡ false
-fits_if h units l = grind (arith, nat_tests)
+    other_slot : (k : ℕ) → x.node ≢ k → slot_at after k ≡ slot_at z k
+    other_slot k other = get_or-set_other z x.node k freed_slot _ (λ e. other (sym e))
 
-fits_of : (h : Gap) (units : ℕ) → is_before h (units, 0) ≡ false → units ≤ h.0
-fits_of h units e = (up_to_if_not_before h (units, 0) e).units
+    own_slot : slot_at after x.node ≡ freed_slot
+    own_slot = get_or-set_same z x.node freed_slot _ (omega (arith, node_within, out.long))
 
-less_or_fits : (h : Gap) (units : ℕ) → (is_before h (units, 0) ≡ false → ⊥) → h.0 < units
-less_or_fits h units never = elim (cases_lt h.0 units) [ inl l ↦ l | inr l ↦ absurd (never (fits_if h units l)) ]
+    tree_after : IsTreeAt after x.root u
+    tree_after = record {
+      fits = omega (arith, long_after, kept.is_tree.fits);
+      shown =
+          keep z after u out.tree.shown (length-set z x.node freed_slot)
+          (all_weaker (λ (y : Entry). y.number ≢ x.node) (λ (y : Entry). slot_at after y.number ≡ slot_at z y.number) (λ y other. other_slot y.number (λ e. other (sym e))) (entries u) gone);
+      root = out.tree.root;
+      rising = out.tree.rising;
+      balanced = out.tree.balanced;
+    }
 
-pub best_of : (gs : List Gap) (n units : ℕ) (r : Option (Bor Gap)) → IsRising gs → IsPlaceOf (units, 0) gs n
-    → MatchOption r (length gs ≤ n) (λ x. (n < length gs) × HoldsAt (λ y. x.now ≡ y) gs n) → MatchOption (option_copied r) (NoneFits units (of gs)) (IsBest units (of gs))
-best_of gs n units None up p past = λ h in_set. less_or_fits h units (none_past gs n (units, 0) up p past h in_set)
-best_of gs n units (Some x) up p at = record {
-  held = held_at gs n x.now x.now at.0 (sym (at.1 x.now));
-  fits = fits_of x.now units (ap (λ h. is_before h (units, 0)) (at.1 x.now) ∙ p.behind n x.now (omega arith) at.0);
-  least = λ h in_set l. subst (λ g. IsUpTo g h) (sym (at.1 x.now)) (least_at gs n (units, 0) up p h x.now in_set (fits_if h units l));
-}
+    low_after : (k : ℕ) → Avoid (entries u) k → height_at after k ≡ 0
+    low_after k lacks = elim (cases_eq k x.node) [
+      | inl e ↦ ap (height_at after) e ∙ ap (λ (v : Slot). v.height) own_slot
+      | inr other ↦
+          ap (λ (v : Slot). v.height) (other_slot k (λ e. other (sym e)) ∙ out.beside k lacks) ∙ kept.others k (with_old k (λ e. other (sym e)) lacks)
+    ]
+
+    shorter : length (entries kept.tree) ≡ length (entries u) + 1
+    shorter = omega (arith, ap length out.was, ap length out.holds, length-append out.front (Y ∷ out.back), length-append out.front out.back)
+
+    pub kept_out : IsKept after x.root x.node (spare + 1)
+    kept_out = record {
+      tree = u;
+      is_tree = tree_after;
+      others = low_after;
+      freed = x.node ∷ kept.freed;
+      are_free = (
+        refl,
+        omega (arith, node_within, long_after),
+        ap (λ (v : Slot). v.height) own_slot,
+        subst (λ n. AreFree after n kept.freed) (sym (ap (λ (v : Slot). v.left) own_slot))
+            (keep_free s after free kept.freed kept.are_free (omega (arith, long_after))
+            (all_weaker (λ (k : ℕ). Avoid (entries kept.tree) k) (λ (k : ℕ). slot_at after k ≡ slot_at s k)
+            (λ k lacks. let parts = without_old k lacks in other_slot k parts.0 ∙ out.beside k parts.1) kept.freed all_apart)),
+      );
+      apart = (all_weaker (λ (k : ℕ). Avoid (entries kept.tree) k) (λ (k : ℕ). k ≢ x.node) (λ k lacks e. (without_old k lacks).0 (sym e)) kept.freed all_apart, kept.apart);
+      spare_is = omega (arith, kept.spare_is);
+      counted = omega (arith, shorter, kept.counted, long_after);
+    }
+
+    pub held_out : finset.contains (gaps_under s root) g ≡ true
+    held_out =
+        ap (λ v. finset.contains v g) gaps_are ∙ ap (λ (es : List Entry). finset.contains (gaps_of es) g) out.was ∙ of_held out.front Y out.back
+
+    pub gaps_out : gaps_under after x.root ≡ finset.remove (gaps_under s root) g
+    gaps_out =
+        gaps_told after x.root u tree_after
+        ∙ ap gaps_of out.holds
+        ∙ of_taken out.front Y out.back rising
+        ∙ ap (λ (es : List Entry). finset.remove (gaps_of es) g) (sym out.was)
+        ∙ ap (λ v. finset.remove v g) (sym gaps_are)
+
+    pub few_out : ChangeAtMost (3 * height kept.tree + 1) s after
+    few_out =
+        change_then (3 * height kept.tree) 1 (3 * height kept.tree + 1) s z after out.few
+        (record { numbers = x.node ∷ []; few = omega arith; same = λ j lacks. other_slot j lacks.0 }) (omega arith)

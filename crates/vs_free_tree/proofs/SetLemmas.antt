@@ -1,15 +1,11 @@
--- What the set of a list of gaps holds, before and after an edit of the list.
-use Rattle.std.proofs.Common.{◌≡◌, ℕ, suc, ◌+◌, ◌<◌, ◌≤◌, Bool, true, false, cond, not, ◌&&◌, ◌||◌, ◌⊎◌, inl, inr, List, [], ◌∷◌, length, get_or, refl, sym, ap, subst, ◌∙◌, arith, true≢false}
-use Rattle.std.specs.List.{list_any, insert, remove}
-use Rattle.std.specs.List.Sorted.{IsPermutation}
-use Rattle.std.specs.Cmp.{IsTotalOrder}
+-- What the set of a list of gaps holds.
+use Rattle.std.proofs.Common.{◌≡◌, ◌≢◌, ℕ, ◌+◌, Bool, true, false, cond, not, ◌&&◌, ◌||◌, ◌⊎◌, inl, inr, List, [], ◌∷◌, ◌++◌, refl, sym, ap, subst, ◌∙◌, true≢false}
+use Rattle.std.specs.List.{list_any, AllByRecursion}
+use Rattle.std.specs.Cmp.{IsTotalOrder, on_total}
 use Rattle.std.specs.Ordering.{nat_cmp, eq_by_cmp, is_eq}
 use Rattle.std.proofs.lemmas.Cmp.{then_total, nat_cmp_total, tied_itself}
-use Rattle.std.specs.Cmp.{on_total}
 use Rattle.std.proofs.lemmas.Map.Lookups.{CmpEqualImpliesEq, exact_pairs, exact_unsigned}
 use Rattle.std.proofs.lemmas.Map.Views.{tells_apart}
-use Rattle.std.proofs.lemmas.List.Folds.{list_any_at}
-use Rattle.std.proofs.lemmas.List.Sorted.{list_any-IsPermutation, length_permutation, IsPermutation-insert, IsPermutation-remove}
 use Rattle.std.specs.FinSet as set
 use Rattle.vs_free_tree.specs.Gaps.{gap_cmp, Gaps}
 
@@ -28,25 +24,69 @@ same = eq_by_cmp gap_cmp
 abbrev of : List Gap → Gaps
 of gs = set.from_list gs
 
--- lists that hold the same gaps
-alike : (gs hs : List Gap) → IsPermutation gs hs → of gs ≡ of hs
-alike gs hs p =
-    set.same_set gap_cmp_total tells_gaps _ _
-    (λ q. set.contains-from_list gap_cmp_total gs q ∙ list_any-IsPermutation (same q) gs hs p ∙ sym (set.contains-from_list gap_cmp_total hs q))
+same_itself : (g : Gap) → same g g ≡ true
+same_itself g = ap is_eq (tied_itself gap_cmp_total g)
 
-pub inserted : (gs : List Gap) (i : ℕ) (g : Gap) → of (insert gs i g) ≡ set.insert (of gs) g
-inserted gs i g = sym (alike (g ∷ gs) (insert gs i g) (IsPermutation-insert gs i g))
+first_or_later : (a b : Bool) → (a || b) ≡ true → (a ≡ true) ⊎ (b ≡ true)
+first_or_later true b e = inl refl
+first_or_later false b e = inr e
 
-longer_by_one : (b : Bool) (n : ℕ) → cond b n (n + 1) ≤ n + 1
-longer_by_one true n = omega arith
-longer_by_one false n = omega arith
+neither : (a b : Bool) → (a || b) ≡ false → (a ≡ false) × (b ≡ false)
+neither true b e = absurd (true≢false e)
+neither false b e = (refl, e)
 
--- no more gaps than places
-no_more : (gs : List Gap) → set.len (of gs) ≤ length gs
-no_more [] = subst (λ n. n ≤ 0) (sym (set.len-empty gap_cmp)) (omega arith)
-no_more (g ∷ gs) =
-    subst (λ n. n ≤ suc (length gs)) (sym (set.len-insert gap_cmp_total (of gs) g))
-    (omega (arith, longer_by_one (set.contains (of gs) g) (set.len (of gs)), no_more gs))
+---- One gap among others
+
+swap_tests : (a b c : Bool) → (a || (b || c)) ≡ (b || (a || c))
+swap_tests true true c = refl
+swap_tests true false c = refl
+swap_tests false b c = refl
+
+any_between : (test : Gap → Bool) (a : List Gap) (g : Gap) (b : List Gap) → list_any test (a ++ g ∷ b) ≡ (test g || list_any test (a ++ b))
+any_between test [] g b = refl
+any_between test (x ∷ a) g b = ap (λ r. test x || r) (any_between test a g b) ∙ swap_tests (test x) (test g) (list_any test (a ++ b))
+
+pub put_between : (a : List Gap) (g : Gap) (b : List Gap) → of (a ++ g ∷ b) ≡ set.insert (of (a ++ b)) g
+put_between a g b = set.same_set gap_cmp_total tells_gaps _ _ (λ q.
+    set.contains-from_list gap_cmp_total (a ++ g ∷ b) q
+    ∙ any_between (same q) a g b
+    ∙ sym (set.contains-insert gap_cmp_total (of (a ++ b)) g q ∙ ap (λ r. same q g || r) (set.contains-from_list gap_cmp_total (a ++ b) q)))
+
+pub contained : (a : List Gap) (g : Gap) (b : List Gap) → set.contains (of (a ++ g ∷ b)) g ≡ true
+contained a g b =
+    ap (λ s. set.contains s g) (put_between a g b)
+    ∙ set.contains-insert gap_cmp_total (of (a ++ b)) g g
+    ∙ ap (λ r. r || set.contains (of (a ++ b)) g) (same_itself g)
+
+---- What holds of all
+
+any_is : (P : Gap → Type 0) (h : Gap) (gs : List Gap) → AllByRecursion P gs → list_any (same h) gs ≡ true → P h
+any_is P h [] all e = absurd (true≢false (sym e))
+any_is P h (g ∷ gs) all e = elim (first_or_later (same h g) (list_any (same h) gs) e) [
+  | inl here ↦ subst P (sym (tells_apart tells_gaps h g here)) all.0
+  | inr there ↦ any_is P h gs all.1 there
+]
+
+pub of_each : (P : Gap → Type 0) (gs : List Gap) (h : Gap) → AllByRecursion P gs → set.contains (of gs) h ≡ true → P h
+of_each P gs h all e = any_is P h gs all (sym (set.contains-from_list gap_cmp_total gs h) ∙ e)
+
+none_is : (g : Gap) (gs : List Gap) → list_any (same g) gs ≡ false → AllByRecursion (λ h. h ≢ g) gs
+none_is g [] e = tt
+none_is g (x ∷ gs) e =
+    let parts = neither (same g x) (list_any (same g) gs) e in
+    ((λ at. true≢false (sym (ap (same g) at ∙ same_itself g) ∙ parts.0)), none_is g gs parts.1)
+
+pub others_if_absent : (gs : List Gap) (g : Gap) → set.contains (of gs) g ≡ false → AllByRecursion (λ h. h ≢ g) gs
+others_if_absent gs g e = none_is g gs (sym (set.contains-from_list gap_cmp_total gs g) ∙ e)
+
+pub absent_if_others : (gs : List Gap) (g : Gap) → AllByRecursion (λ h. h ≢ g) gs → set.contains (of gs) g ≡ false
+absent_if_others gs g others = by (set.contains (of gs) g) refl
+  where
+    by : (b : Bool) → set.contains (of gs) g ≡ b → set.contains (of gs) g ≡ false
+    by false e = e
+    by true e = absurd (of_each (λ h. h ≢ g) gs g others e refl)
+
+---- One more, or one less
 
 pub insert_counts : (s : Gaps) (g : Gap) → set.contains s g ≡ false → set.len (set.insert s g) ≡ set.len s + 1
 insert_counts s g e = set.len-insert gap_cmp_total s g ∙ ap (λ b. cond b (set.len s) (set.len s + 1)) e
@@ -72,75 +112,6 @@ taken_back s g absent =
         ap (λ b. not b && (b || set.contains s q)) e ∙ sym (ap (set.contains s) (tells_apart tells_gaps q g e) ∙ absent)
     by q false e = ap (λ b. not b && (b || set.contains s q)) e
 
-pub record IsRemoved (gs : List Gap) (i : ℕ) (g : Gap) : Type 0 where
-  pub held : set.contains (of gs) g ≡ true
-  pub rest : of (remove gs i) ≡ set.remove (of gs) g
-  pub distinct : set.len (of (remove gs i)) ≡ length (remove gs i)
-
-module _ (gs : List Gap) (i : ℕ) (g : Gap) (within : i < length gs) (at : g ≡ get_or gs i g) (distinct : set.len (of gs) ≡ length gs) where
-  abbrev rest : List Gap
-  rest = remove gs i
-
-  moved : IsPermutation gs (g ∷ rest)
-  moved = IsPermutation-remove gs i g within at
-
-  whole : of gs ≡ set.insert (of rest) g
-  whole = alike gs (g ∷ rest) moved
-
-  longer : suc (length rest) ≡ length gs
-  longer = length_permutation gs (g ∷ rest) moved
-
-  absent : set.contains (of rest) g ≡ false
-  absent = by (set.contains (of rest) g) refl
-    where
-      by : (b : Bool) → set.contains (of rest) g ≡ b → set.contains (of rest) g ≡ false
-      by false e = e
-      by true e =
-          let counted : set.len (set.insert (of rest) g) ≡ set.len (of rest) =
-          set.len-insert gap_cmp_total (of rest) g ∙ ap (λ b. cond b (set.len (of rest)) (set.len (of rest) + 1)) e in
-          let all : set.len (of gs) ≡ set.len (set.insert (of rest) g) = ap set.len whole in
-          absurd (omega (arith, counted, all, distinct, longer, no_more rest))
-
-  -- where no gap stands twice, the list without one of them holds all others
-  pub removed : IsRemoved gs i g
-  removed = record {
-    held =
-        ap (λ s. set.contains s g) whole
-        ∙ set.contains-insert gap_cmp_total (of rest) g g
-        ∙ ap (λ o. is_eq o || set.contains (of rest) g) (tied_itself gap_cmp_total g);
-    rest = sym (ap (λ s. set.remove s g) whole ∙ taken_back (of rest) g absent);
-    distinct =
-        let all : set.len (of gs) ≡ set.len (set.insert (of rest) g) = ap set.len whole in
-        omega (arith, all, insert_counts (of rest) g absent, distinct, longer);
-  }
-
--- where a gap stands
-pub record StandsAt (gs : List Gap) (g : Gap) : Type 0 where
-  pub place : ℕ
-  pub within : place < length gs
-  pub is : (d : Gap) → get_or gs place d ≡ g
-
-stands_first : (g h : Gap) (gs : List Gap) → same g h ≡ true → StandsAt (h ∷ gs) g
-stands_first g h gs here = record { place = 0; within = omega arith; is = λ d. sym (tells_apart tells_gaps g h here) }
-
-stands_later : (g h : Gap) (gs : List Gap) → StandsAt gs g → StandsAt (h ∷ gs) g
-stands_later g h gs s = record { place = suc s.place; within = omega (arith, s.within); is = s.is }
-
-first_or_later : (a b : Bool) → (a || b) ≡ true → (a ≡ true) ⊎ (b ≡ true)
-first_or_later true b e = inl refl
-first_or_later false b e = inr e
-
-found_at : (g : Gap) (gs : List Gap) → list_any (same g) gs ≡ true → StandsAt gs g
-found_at g [] e = absurd (true≢false (sym e))
-found_at g (h ∷ gs) e = elim (first_or_later (same g h) (list_any (same g) gs) e) [
-  | inl here ↦ stands_first g h gs here
-  | inr there ↦ stands_later g h gs (found_at g gs there)
-]
-
-pub stands_at : (gs : List Gap) (g : Gap) → set.contains (of gs) g ≡ true → StandsAt gs g
-stands_at gs g e = found_at g gs (sym (set.contains-from_list gap_cmp_total gs g) ∙ e)
-
-pub held_at : (gs : List Gap) (k : ℕ) (d g : Gap) → k < length gs → get_or gs k d ≡ g → set.contains (of gs) g ≡ true
-held_at gs k d g l e =
-    set.contains-from_list gap_cmp_total gs g
-    ∙ list_any_at (same g) gs k d l (subst (λ h. same g h ≡ true) (sym e) (ap is_eq (tied_itself gap_cmp_total g)))
+pub taken_between : (a : List Gap) (g : Gap) (b : List Gap) → AllByRecursion (λ h. h ≢ g) (a ++ b) → of (a ++ b) ≡ set.remove (of (a ++ g ∷ b)) g
+taken_between a g b others =
+    sym (ap (λ s. set.remove s g) (put_between a g b) ∙ taken_back (of (a ++ b)) g (absent_if_others (a ++ b) g others))

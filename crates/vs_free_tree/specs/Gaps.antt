@@ -1,5 +1,5 @@
 -- A set of gaps, as contracts see it, and the gap that a request takes.
-use Rattle.std.specs.Prelude.{◌≡◌, ℕ, ◌<◌, ◌≤◌, true, refl}
+use Rattle.std.specs.Prelude.{◌≡◌, ℕ, ◌<◌, ◌≤◌, ◌==◌, Bool, true, ◌&&◌, ◌||◌, nat_lt, refl}
 use Rattle.std.specs.Ordering.{nat_cmp, ordering_then}
 use Rattle.std.specs.declared.cmp.Ordering.{Ordering}
 use Rattle.std.specs.FinSet as set
@@ -24,6 +24,9 @@ gap_index_code =
 
 abbrev pub empty_index : ℕ → GapIndex
 empty_index capacity = record { gaps = set.empty; capacity = capacity }
+
+abbrev pub is_before : ℕ × ℕ → ℕ × ℕ → Bool
+is_before h g = nat_lt h.0 g.0 || (h.0 == g.0 && nat_lt h.1 g.1)
 
 -- g is smaller than h, or as large and not above it
 pub record IsUpTo (g h : ℕ × ℕ) : Type 0 where

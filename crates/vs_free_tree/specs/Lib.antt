@@ -1,2 +1,5 @@
 pub mod Gaps
-pub mod Sorted
+pub mod Tree
+pub mod Slots
+pub mod Index
+pub mod Kept

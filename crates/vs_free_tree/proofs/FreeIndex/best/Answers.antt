@@ -1,16 +1,20 @@
--- What stands at the place of the least pair of so many units is the best.
-use Rattle.std.proofs.Common.{◌≡◌, sym, subst, length, ◌≤◌, ◌<◌}
-use Rattle.std.specs.List.{HoldsAt}
-use Rattle.std.specs.Option.{MatchOption, option_copied}
-use Rattle.vs_free_tree.specs.Gaps.{GapIndex, NoneFits, IsBest}
-use Rattle.vs_free_tree.specs.Sorted.{IsPlaceOf}
-use Rattle.vs_free_tree.proofs.KeptLemmas.{best_of}
+-- The first node that fits has the best gap.
+use Rattle.std.proofs.Common.{◌≡◌, sym, ap, subst, ◌∙◌}
+use Rattle.std.specs.Option.{MatchOption}
+use Rattle.vs_free_tree.specs.Gaps.{Gaps, NoneFits, IsBest}
+use Rattle.vs_free_tree.specs.Index.{GapTree}
+use Rattle.vs_free_tree.specs.Slots.{IsTreeAt}
+use Rattle.vs_free_tree.specs.Tree.{entries}
+use Rattle.vs_free_tree.proofs.GapLemmas.{found_is_best}
+use Rattle.vs_free_tree.proofs.KeptLemmas.{gaps_are}
 use Rattle.vs_free_tree.proofs.FreeIndex.best.Goals as goal
+
+pub best-requires : goal.best-requires
+best-requires c = rw c.deref.ensures.value (c.self.invariant.tree, c.self.invariant.is_tree)
 
 pub returns : goal.returns
 returns c =
-    let place = subst (λ l. IsPlaceOf (c.args.units, 0) l c.place_of-place.result) c.deref.ensures.value c.place_of-place.ensures in
-    let at = subst (λ l. MatchOption c.get.result (length l ≤ c.place_of-place.result) (λ x. (c.place_of-place.result < length l) × HoldsAt (λ y. x.now ≡ y) l c.place_of-place.result)) c.deref-2.ensures.value c.get.ensures.lookup.3 in
-    let best = best_of c.self.inside.pairs.items c.place_of-place.result c.args.units c.get.result c.self.invariant.rising place at in
-    subst (λ r. MatchOption r (NoneFits c.args.units c.args.self.now.gaps) (IsBest c.args.units c.args.self.now.gaps)) (sym c.copied.ensures)
-    (subst (λ (x : GapIndex). MatchOption (option_copied c.get.result) (NoneFits c.args.units x.gaps) (IsBest c.args.units x.gaps)) c.self.view_is best)
+    let tree = subst (λ s. IsTreeAt s c.self.inside.root c.self.invariant.tree) (sym c.deref.ensures.value) c.self.invariant.is_tree in
+    let gaps = sym (gaps_are c.self.inside.nodes.items c.self.inside.root c.self.inside.free c.self.inside.spare c.self.invariant) ∙ ap (λ (x : GapTree). x.gaps) c.self.view_is in
+    subst (λ (g : Gaps). MatchOption c.best.result (NoneFits c.args.units g) (IsBest c.args.units g)) gaps
+    (found_is_best c.args.units (entries c.self.invariant.tree) c.best.result c.self.invariant.is_tree.rising (c.best.ensures c.self.invariant.tree tree))
