@@ -39,15 +39,26 @@ fn run_where(
     Ok(())
 }
 
+/// How many calls so many bytes take.
+fn pieces(len: usize) -> Result<u32, Fail> {
+    Ok(u32::try_from(len.div_ceil(PIECE))?)
+}
+
 /// Each write of a case fails in turn, then its finish, and then nothing.
 fn each_write_fails(rt: &impl Abort, alloc: Global, case: &Case<'_>) -> Result<(), Fail> {
     let due = case.written.as_bytes();
-    let writes = due.len().div_ceil(PIECE) as u32;
+    let writes = pieces(due.len())?;
     for call in 0..=writes {
         let taken = (PIECE * call as usize).min(due.len());
         run_where(rt, alloc, case, call, (5, &due[..taken]))?;
     }
-    run_where(rt, alloc, case, writes + 1, (case.status, due))
+    run_where(
+        rt,
+        alloc,
+        case,
+        writes.saturating_add(1),
+        (case.status, due),
+    )
 }
 
 #[test]
@@ -84,7 +95,7 @@ fn failing_reads(rt: HostRuntime) -> Result<(), Fail> {
     let alloc = rt.alloc();
     let (text, written) = drawn_script(alloc)?;
     let words = words_of(alloc, &ONE_SEGMENT)?;
-    let reads = text.len().div_ceil(PIECE) as u32 + 1;
+    let reads = pieces(text.len())?.saturating_add(1);
     for call in 0..=reads {
         let mut source = BytesSource::new(alloc, text.as_bytes(), PIECE, &[call])?;
         let mut sink = PlainSink::new(alloc);
@@ -100,13 +111,15 @@ fn failing_reads(rt: HostRuntime) -> Result<(), Fail> {
     Ok(())
 }
 
-/// Words behind a program's name, as a system may give them.
+static LONG: [u8; 300] = [b'a'; 300];
+
+/// A program's name and two words behind it, as a system may give them.
 #[derive(Clone, Copy)]
-struct Given<'a> {
-    words: &'a [&'a [u8]],
+struct Given {
+    words: [&'static [u8]; 3],
 }
 
-impl Env for Given<'_> {
+impl Env for Given {
     fn arg(&self, i: usize, buf: &mut [u8]) -> Result<usize, FillError> {
         let Some(word) = self.words.get(i) else {
             return Err(FillError::NotPresent);
@@ -131,17 +144,16 @@ impl Env for Given<'_> {
 #[test]
 fn words_of_bytes(rt: HostRuntime) -> Result<(), Fail> {
     let alloc = rt.alloc();
-    let name = b"\xff/run\xfe".as_slice();
-    let long = [b'a'; 300];
-    for (words, status, due) in [
-        ([name, b"--mode", b"one"].as_slice(), 0, BLOCK_REPORT),
-        (&[name, b"--mode", b"one\xff"], 2, "usage fault\n"),
-        (&[name, b"--mode", b"\xff"], 2, "usage fault\n"),
-        (&[name, b"--mode", long.as_slice()], 2, "usage fault\n"),
+    for (one, status, due) in [
+        (b"one".as_slice(), 0, BLOCK_REPORT),
+        (b"one\xff", 2, "usage fault\n"),
+        (b"\xff", 2, "usage fault\n"),
+        (&LONG, 2, "usage fault\n"),
     ] {
+        let words = [b"\xff/run\xfe".as_slice(), b"--mode", one];
         let given = words_given(alloc, &Given { words })?;
         assert_eq!(rt; given.len(), 2);
-        assert_eq!(rt; given[1].as_slice(), words[2]);
+        assert_eq!(rt; given[1].as_slice(), one);
         let mut source = PlainSource::new(alloc, BLOCK.as_bytes())?;
         let mut sink = PlainSink::new(alloc);
         let ran = run_words(alloc, &given, &mut source, &mut sink);

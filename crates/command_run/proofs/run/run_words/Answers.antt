@@ -10,7 +10,7 @@ returns-in-Ok-Some-clause-no_text g c =
     let same = rw c.in-Ok-Some.field-0-is at c.in-Ok-Some.ensures.same in
     λ n.
     let none : AreNoWords (map string_bytes c.deref.result.now) = rw (c.deref.ensures.value, same) (no_text _ n) in
-    usage_only _ _ _ _ _ _ _ _ _ _ c.run.result.status c.run.ensures none
+    usage_only _ _ _ _ _ _ _ _ _ _ c.run_one.result.status c.run_one.ensures.ends none
 
 pub returns-in-Ok-None-clause-ends : goal.returns-in-Ok-None-clause-ends
 returns-in-Ok-None-clause-ends g c =
