@@ -1,4 +1,4 @@
-use Rattle.std.proofs.Common.{◌≡◌, List, map, string_bytes, Vec, Global, ℕ, refl, sym, subst, inl}
+use Rattle.std.proofs.Common.{map, string_bytes, refl, inl}
 use Rattle.command_run.specs.declared.ending.Due.TheVariants as dues
 use Rattle.command_run.specs.Due.{AreNoWords}
 use Rattle.command_run.proofs.EndLemmas.{usage_only, unread}
@@ -11,6 +11,11 @@ returns-in-Ok-Some-clause-no_text g c =
     λ n.
     let none : AreNoWords (map string_bytes c.deref.result.now) = rw (c.deref.ensures.value, same) (no_text _ n) in
     usage_only _ _ _ _ _ _ _ _ _ _ c.run_one.result.status c.run_one.ensures.ends none
+
+pub returns-in-Ok-Some-clause-ends : goal.returns-in-Ok-Some-clause-ends
+returns-in-Ok-Some-clause-ends g c =
+    let same = rw c.in-Ok-Some.field-0-is at c.in-Ok-Some.ensures.same in
+    rw (← same, ← c.deref.ensures.value) c.run_one.ensures.ends
 
 pub returns-in-Ok-None-clause-ends : goal.returns-in-Ok-None-clause-ends
 returns-in-Ok-None-clause-ends g c =
