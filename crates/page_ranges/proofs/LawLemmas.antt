@@ -1,12 +1,11 @@
 -- What a mark makes of the runs.
-use Rattle.std.proofs.Common.{◌≡◌, ℕ, ◌+◌, ◌-◌, ◌<◌, ◌≤◌, inl, inr, Bool, refl, ap, ◌∙◌, sym, arith, subst, List, [], ◌∷◌, ◌++◌, length, Some, zero-add}
+use Rattle.std.proofs.Common.{◌≡◌, ℕ, ◌+◌, ◌-◌, ◌<◌, inl, inr, ap, ◌∙◌, arith, subst, List, [], ◌∷◌, ◌++◌, length, Some, zero-add}
 use Rattle.std.proofs.lemmas.List.Sums.{sum_by-cons}
-use Rattle.std.specs.List.{find}
 use Rattle.heap_model.specs.declared.Run.{Run}
 use Rattle.page_ranges.specs.Words.{run_of_page, runs_of}
-use Rattle.page_ranges.specs.Ranges.{IsRun, AreRuns, IsWhole, IsMarked, has_page}
-use Rattle.page_ranges.specs.Laws.{MarkedRunIsReadBack, LieApart, MarkLeavesOtherRuns, MarkReplacesRuns, AgreeOutside, MarksReplaceRuns, StandsAmong, FoundRunStandsAmong, RunsAreReadInOrder, pages_in}
-use Rattle.page_ranges.proofs.Runs.{runs_only, page_tells, finds_run, runs_le, run_kept, runs_kept, runs_append, Parts, parts_of}
+use Rattle.page_ranges.specs.Ranges.{AreRuns}
+use Rattle.page_ranges.specs.Laws.{MarkedRunIsReadBack, MarkLeavesOtherRuns, MarkReplacesRuns, MarksReplaceRuns, FoundRunStandsAmong, RunsAreReadInOrder, pages_in}
+use Rattle.page_ranges.proofs.Runs.{runs_only, page_tells, finds_run, runs_le, run_kept, runs_kept, runs_append, parts_of}
 use Rattle.page_ranges.proofs.Marked.{whole_from}
 
 pub read_back : MarkedRunIsReadBack

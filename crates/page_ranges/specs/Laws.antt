@@ -1,5 +1,5 @@
 -- What a mark makes of the runs, and what is read at their pages.
-use Rattle.std.specs.Prelude.{◌≡◌, ℕ, ◌+◌, ◌<◌, ◌≤◌, ◌⊎◌, Bool, List, [], ◌∷◌, ◌++◌, length, slice_index, sum_by, Some}
+use Rattle.std.specs.Prelude.{◌≡◌, ℕ, ◌+◌, ◌<◌, ◌≤◌, ◌⊎◌, Bool, List, ◌∷◌, ◌++◌, length, slice_index, sum_by, Some}
 use Rattle.std.specs.List.{find}
 use Rattle.heap_model.specs.declared.Run.{Run}
 use Rattle.page_ranges.specs.Words.{runs_of}

@@ -4,15 +4,14 @@ use Rattle.std.proofs.lemmas.Bool.{lt-ltb, le-ltb}
 use Rattle.heap_model.specs.declared.Kind.{Kind}
 use Rattle.heap_model.specs.declared.Kind.TheVariants as kinds
 use Rattle.heap_model.specs.declared.Run.{Run}
-use Rattle.heap_model.specs.State.{State, Setting, Area, Span, Place}
+use Rattle.heap_model.specs.State.{Area, Span, Place}
 use Rattle.heap_model.specs.Backend.{free_runs}
-use Rattle.heap_model.specs.Layout.{PageRange, span_range, free_range, insert_range, insert_ranges, page_ranges_of}
+use Rattle.heap_model.specs.Layout.{PageRange, span_range, free_range, insert_range, insert_ranges}
 use Rattle.page_ranges.specs.Words.{runs_of}
 use Rattle.page_ranges.specs.Ranges.{AreRuns, IsRun}
 use Rattle.page_ranges.specs.Spans.{taken_runs, frees_in, span_of, plain}
-use Rattle.layout_decode.specs.declared.Image.{Image}
-use Rattle.layout_decode.specs.Shows.{Shows, run_of_span}
-use Rattle.report_text.specs.Image.{range_of, shown_runs, ranges_of}
+use Rattle.layout_decode.specs.Shows.{run_of_span}
+use Rattle.report_text.specs.Image.{range_of, shown_runs}
 use Rattle.report_text.specs.Laws.{RangesAreOfTheState}
 
 -- the range of a run that is a span
