@@ -3,6 +3,7 @@ use crate::{
     BytesSink, BytesSource, NoPace, Pace, PlainSink, PlainSource, ReadNo, Sink, SinkNo, Source,
     StdSink, StdSource, read_whole, write_whole,
 };
+use std::io::BufWriter;
 use std::test::Fail;
 
 #[test]
@@ -65,6 +66,17 @@ fn over_std(rt: HostRuntime) -> Result<(), Fail> {
     let mut sink = StdSink::new(&mut held);
     write_whole(&mut sink, b"hello")?;
     assert_eq!(rt; held.as_slice(), b"hello".as_slice());
+    Ok(())
+}
+
+/// No contract of std says what a flush does, so that a `finish` which does not flush shows only here.
+#[test]
+fn finish_flushes(rt: HostRuntime) -> Result<(), Fail> {
+    let mut buffered = BufWriter::new(rt.alloc(), Vec::new(rt.alloc()))?;
+    let mut sink = StdSink::new(&mut buffered);
+    write_whole(&mut sink, b"hello")?;
+    assert!(rt; buffered.buffer().is_empty());
+    assert_eq!(rt; buffered.get_ref().as_slice(), b"hello".as_slice());
     Ok(())
 }
 

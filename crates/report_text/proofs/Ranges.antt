@@ -4,15 +4,15 @@ use Rattle.std.proofs.lemmas.Bool.{lt-ltb, le-ltb}
 use Rattle.heap_model.specs.declared.Kind.{Kind}
 use Rattle.heap_model.specs.declared.Kind.TheVariants as kinds
 use Rattle.heap_model.specs.declared.Run.{Run}
-use Rattle.heap_model.specs.State.{State, Setting, Area, Span, Place}
+use Rattle.heap_model.specs.State.{Area, Span, Place}
 use Rattle.heap_model.specs.Backend.{free_runs}
-use Rattle.heap_model.specs.Layout.{PageRange, span_range, free_range, insert_range, insert_ranges, page_ranges_of}
+use Rattle.heap_model.specs.Layout.{PageRange, span_range, free_range, insert_range, insert_ranges}
 use Rattle.page_ranges.specs.Words.{runs_of}
 use Rattle.page_ranges.specs.Ranges.{AreRuns, IsRun}
 use Rattle.page_ranges.specs.Spans.{taken_runs, frees_in, span_of, plain}
-use Rattle.layout_decode.specs.declared.Image.{Image}
-use Rattle.layout_decode.specs.Shows.{Shows, run_of_span}
-use Rattle.report_text.specs.Image.{range_of, shown_runs, ranges_of}
+use Rattle.layout_decode.specs.Shows.{run_of_span}
+use Rattle.report_text.specs.Image.{range_of, shown_runs}
+use Rattle.report_text.specs.Laws.{RangesAreOfTheState}
 
 -- the range of a run that is a span
 abbrev taken_range : Run → PageRange
@@ -118,7 +118,7 @@ span_ranges : (places : List Place) (xs : List Span) → map span_range xs ≡ m
 span_ranges places [] = refl
 span_ranges places (x ∷ xs) = ap (λ (ys : List PageRange). span_range x ∷ ys) (span_ranges places xs)
 
-pub ranges_are : (image : Image) (s : Setting) (st : State) → Shows image s st → ranges_of image ≡ page_ranges_of st.back.area
+pub ranges_are : RangesAreOfTheState
 ranges_are image s st shown =
     let a = st.back.area in
     let rs = runs_of image.descs in
