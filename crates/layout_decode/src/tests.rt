@@ -26,27 +26,12 @@ const ONE_SEGMENT: Limits = Limits {
     callers: 1,
 };
 
-const FREE: Mark = Mark {
-    kind: Kind::Free,
-    bucket: 0,
-    slot: 0,
-    unused: 0,
-};
-
 /// The mark of a block of 131,073 bytes in 33 pages.
 const BLOCK: Mark = Mark {
     kind: Kind::Back,
     bucket: 0,
     slot: 0,
     unused: 4095,
-};
-
-/// The mark of a span of the variable-size layer.
-const CHUNKS: Mark = Mark {
-    kind: Kind::Vs,
-    bucket: 0,
-    slot: 0,
-    unused: 0,
 };
 
 /// The mark of a subsegment of 126 blocks of 32 bytes.
@@ -66,7 +51,7 @@ fn one_block(alloc: Global) -> Result<Image, OutOfMemory>
     let mut descs = Descs::new(alloc, &ONE_SEGMENT)?;
     descs.open_segment(0);
     descs.mark(2, 33, BLOCK);
-    descs.mark(35, 221, FREE);
+    descs.mark(35, 221, Mark::FREE);
     let words = empty_words(alloc)?;
     Ok(Image {
         limits: ONE_SEGMENT,
@@ -88,9 +73,9 @@ fn four_blocks<R: Abort>(rt: &R, alloc: Global) -> Result<Image, OutOfMemory>
     heads.open_span(2, 16);
     let mut descs = Descs::new(alloc, &ONE_SEGMENT)?;
     descs.open_segment(0);
-    descs.mark(2, 16, CHUNKS);
+    descs.mark(2, 16, Mark::VS);
     descs.mark(18, 33, BLOCK);
-    descs.mark(51, 205, FREE);
+    descs.mark(51, 205, Mark::FREE);
     let words = empty_words(alloc)?;
     let mut image = Image {
         limits: ONE_SEGMENT,
@@ -118,7 +103,7 @@ fn five_blocks<R: Abort>(rt: &R, alloc: Global) -> Result<Image, OutOfMemory>
     descs.open_segment(0);
     descs.mark(2, 1, SUBSEGMENT);
     descs.mark(3, 33, BLOCK);
-    descs.mark(36, 220, FREE);
+    descs.mark(36, 220, Mark::FREE);
     let words = words_of_four_blocks(alloc)?;
     assert!(rt; are_small(&words));
     Ok(Image {

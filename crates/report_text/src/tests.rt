@@ -9,7 +9,7 @@ ghost use Rattle.layout_decode.specs.Decode.{AreTold, IsReadable};
 use crate::{Answers, report};
 use heap_model::{Kind, Limits, Mark, OutOfMemory, Reply, Words};
 use layout_decode::Image;
-use page_ranges::{Descs, FREE};
+use page_ranges::Descs;
 use page_region::Region;
 use script_text::read_script;
 use std::alloc::Global;
@@ -36,14 +36,6 @@ const BLOCK: Mark = Mark {
     unused: 4095,
 };
 
-/// The mark of a span of the variable-size layer.
-const CHUNKS: Mark = Mark {
-    kind: Kind::Vs,
-    bucket: 0,
-    slot: 0,
-    unused: 0,
-};
-
 /// The mark of a subsegment of 126 blocks of 32 bytes.
 const SUBSEGMENT: Mark = Mark {
     kind: Kind::Lfh,
@@ -62,9 +54,9 @@ fn three_blocks<R: Abort>(rt: &R, alloc: Global) -> Result<Image, OutOfMemory>
     heads.open_span(2, 16);
     let mut descs = Descs::new(alloc, &ONE_SEGMENT)?;
     descs.open_segment(0);
-    descs.mark(2, 16, CHUNKS);
+    descs.mark(2, 16, Mark::VS);
     descs.mark(18, 33, BLOCK);
-    descs.mark(51, 205, FREE);
+    descs.mark(51, 205, Mark::FREE);
     let words = empty_words(alloc)?;
     let mut image = Image {
         limits: ONE_SEGMENT,
@@ -91,7 +83,7 @@ fn two_small_blocks<R: Abort>(rt: &R, alloc: Global) -> Result<Image, OutOfMemor
     descs.open_segment(0);
     descs.mark(2, 1, SUBSEGMENT);
     descs.mark(3, 33, BLOCK);
-    descs.mark(36, 220, FREE);
+    descs.mark(36, 220, Mark::FREE);
     let words = words_of_two_blocks(alloc)?;
     assert!(rt; are_small(&words));
     Ok(Image {

@@ -1,5 +1,6 @@
-use Rattle.std.proofs.Common.{◌≡◌, ℕ, length, ap, ◌∙◌, arith}
+use Rattle.std.proofs.Common.{◌≡◌, ◌*◌, ℕ, length, sym, ap, ◌∙◌, arith}
 use Rattle.std.proofs.lemmas.List.{length-replicate}
+use Rattle.heap_model.specs.declared.Limits.{Limits}
 use Rattle.page_region.specs.Held.{Held}
 use Rattle.vs_split.specs.Chunks.{Chunks, head_at}
 use Rattle.vs_split.proofs.TileLemmas.{none_or_some}
@@ -24,8 +25,8 @@ pub could_cut-requires-clause-told : goal.could_cut-requires-clause-told
 could_cut-requires-clause-told g c =
     opened_tells c.in_ok-heads.heads c.open_span.new.self 11400714819323198527 65536 515 4093 (ap (λ (x : Chunks). x.heads) c.in_ok-heads.ensures) (ap (λ (x : Chunks). x.key) c.in_ok-heads.ensures) (omega arith) c.open_span.ensures
 
-pub returns-clause-readable : goal.returns-clause-readable
-returns-clause-readable g c =
+pub returns : goal.returns
+returns g c =
     let image = c.could_cut-3.new.image in
     let words = c.mark-3.new.self in
     let same : image.descs ≡ words = c.could_cut-3.ensures.descs ∙ c.could_cut-2.ensures.descs ∙ c.could_cut.ensures.descs in
@@ -38,12 +39,14 @@ returns-clause-readable g c =
     let runs = two.runs in
     let row = c.is_row.ensures (cc) in
     record {
-      whole = rw same two.whole;
-      rows = rw (same, runs) (tt, (tt, (row, (tt, (tt, tt)))));
-      told = c.could_cut-3.ensures.told;
-      subsegments = rw (same, runs) (tt, (tt, (tt, (tt, (tt, tt)))));
-      fits = rw (same, runs) (tt, (tt, (tt, (tt, (tt, tt)))));
-      words = rw (limits, table) c.in_ok-words.ensures;
-      segments = ap (λ (h : Held). h.segments) region ∙ c.in_ok-region.ensures ∙ sym (ap (λ (l : Limits). l.segments) limits);
-      pages = ap length same ∙ len ∙ sym (ap (λ (l : Limits). 256 * l.segments) limits);
+      readable = record {
+        whole = rw same two.whole;
+        rows = rw (same, runs) (tt, (tt, (row, (tt, (tt, tt)))));
+        told = c.could_cut-3.ensures.told;
+        subsegments = rw (same, runs) (tt, (tt, (tt, (tt, (tt, tt)))));
+        fits = rw (same, runs) (tt, (tt, (tt, (tt, (tt, tt)))));
+        words = rw (limits, table) c.in_ok-words.ensures;
+        segments = ap (λ (h : Held). h.segments) region ∙ c.in_ok-region.ensures ∙ sym (ap (λ (l : Limits). l.segments) limits);
+        pages = ap length same ∙ len ∙ sym (ap (λ (l : Limits). 256 * l.segments) limits);
+      };
     }

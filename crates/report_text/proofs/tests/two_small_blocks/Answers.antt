@@ -25,8 +25,8 @@ pub mark-requires-3-clause-inside : goal.mark-requires-3-clause-inside
 mark-requires-3-clause-inside g c =
     record { behind = omega arith; below = omega arith; open_one = c.mark-2.ensures.same_open 0 ∙ c.mark.ensures.same_open 0 ∙ c.open_segment.ensures.open_one }
 
-pub returns-clause-readable : goal.returns-clause-readable
-returns-clause-readable g c =
+pub returns : goal.returns
+returns g c =
     let words = c.mark-3.new.self in
     let v = c.in_ok-heads.heads in
     let len : length words ≡ 256 =
@@ -36,12 +36,14 @@ returns-clause-readable g c =
     let image : Image = record { limits = ONE_SEGMENT; region = c.in_ok-region.region; descs = words; key = 11400714819323198527; heads = v; words = c.in_ok-words.words } in
     let fits = fit_small image run (subsegment image.limits refl) (c.are_small.ensures (cc)) in
     record {
-      whole = two.whole;
-      rows = rw runs (tt, (tt, (tt, (tt, (tt, tt)))));
-      told = tells_nothing v 11400714819323198527 65536 (ap (λ (x : Chunks). x.heads) c.in_ok-heads.ensures);
-      subsegments = rw runs (tt, (tt, (subsegment image.limits refl, (tt, (tt, tt)))));
-      fits = rw runs (tt, (tt, (fits, (tt, (tt, tt)))));
-      words = c.in_ok-words.ensures;
-      segments = c.in_ok-region.ensures;
-      pages = len;
+      readable = record {
+        whole = two.whole;
+        rows = rw runs (tt, (tt, (tt, (tt, (tt, tt)))));
+        told = tells_nothing v 11400714819323198527 65536 (ap (λ (x : Chunks). x.heads) c.in_ok-heads.ensures);
+        subsegments = rw runs (tt, (tt, (subsegment image.limits refl, (tt, (tt, tt)))));
+        fits = rw runs (tt, (tt, (fits, (tt, (tt, tt)))));
+        words = c.in_ok-words.ensures;
+        segments = c.in_ok-region.ensures;
+        pages = len;
+      };
     }
