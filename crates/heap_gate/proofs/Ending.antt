@@ -1,6 +1,6 @@
 -- What a closed table shows.
-use Rattle.std.proofs.Common.{◌≡◌, ℕ, ◌<◌, true, false, List, [], ◌∷◌, length, refl, sym, ap, ◌∙◌, subst, arith, Option, Some, None, inl, inr, eq-eqb}
-use Rattle.std.specs.Prelude.{nat_lt}
+use Rattle.std.proofs.Common.{◌≡◌, ℕ, ◌<◌, ◌≤◌, true, false, List, [], ◌∷◌, length, refl, sym, ap, ◌∙◌, subst, arith, Option, Some, None, inl, inr, eq-eqb}
+use Rattle.std.specs.Prelude.{nat_lt, slice_index}
 use Rattle.std.proofs.lemmas.Bool.{and_parts, and_from, cases_Bool, ltb-true, ltb-false, true≢false}
 use mathlib.Core.Option.{some}
 use lib.ListN.{get_elem?}
@@ -17,7 +17,7 @@ use Rattle.claim_rule.specs.declared.views.Assignment.{Assignment}
 use Rattle.heap_model.specs.declared.Opening.{Opening}
 use Rattle.claim_rule.specs.declared.views.Lead.{Lead}
 use Rattle.claim_rule.specs.declared.views.View.{View}
-use Rattle.claim_rule.specs.Places.{vs_slot, back_slot, large_slot}
+use Rattle.claim_rule.specs.Places.{vs_slot, back_slot, large_slot, made_word}
 use Rattle.claim_rule.specs.Shown.{AreAllShown}
 use Rattle.heap_model.specs.Layers.{LayerState, StandsForVs, StandsForBack, StandsForLarge}
 use Rattle.claim_rule.specs.Home.{AreHome}
@@ -44,6 +44,7 @@ module _ {T : Type 0} (stands : T → LayerState) (o : Opening) where
   pub record IsEnded (R : List Assignment) (l : List Entry) (ws : List ℕ) (xs : List (Option T)) : Type 0 where
     pub rest : IsAtRest (configuration_of (setting_of o R) l).state
     pub words : AreAllShown o.limits (length R) (configuration_of (setting_of o R) l) [] ws
+    pub made : slice_index ws made_word ≤ o.limits.callers
     pub vs : (t : T) × (get_elem? xs vs_slot ≡ some (Some t)) × StandsForVs o (configuration_of (setting_of o R) l).state (stands t)
     pub back : (t : T) × (get_elem? xs back_slot ≡ some (Some t)) × StandsForBack o (configuration_of (setting_of o R) l).state (stands t)
     pub large : (t : T) × (get_elem? xs large_slot ≡ some (Some t)) × StandsForLarge o (configuration_of (setting_of o R) l).state (stands t)
@@ -82,9 +83,9 @@ module _ {T : Type 0} (stands : T → LayerState) (o : Opening) where
       let words : AreAllShown o.limits (length R) m [] ws =
       subst (λ (w : List ℕ). AreAllShown o.limits (length R) m [] w) f.2 (subst (λ (x : ℕ). AreAllShown o.limits x m [] st.words) counted (subst (λ (w : List Rattle.claim_rule.specs.declared.views.Owed.Owed). AreAllShown o.limits r.lead.counted m w st.words) paid here)) in
       let large : m.state.gate.locks.large ≡ None = none_is m.state.gate.locks.large (free whats.Large) in
-      let v = home.vs vs in
-      let b = home.back back in
-      let g = home.large large in
+      let v = home.full whats.Vs tt vs in
+      let b = home.full whats.Back tt back in
+      let g = home.full whats.Large tt large in
       record {
         rest = record {
           counted = nobody_counted m.state.gate.counted (λ d. (idle d).counted);
@@ -94,6 +95,7 @@ module _ {T : Type 0} (stands : T → LayerState) (o : Opening) where
           hands = λ n. (idle n).hands;
         };
         words = words;
+        made = let few = r.numbers.counted in let is = words.made_is in omega arith;
         vs = (v.0, f.4 vs_slot (Some v.0) v.1, v.2);
         back = (b.0, f.4 back_slot (Some b.0) b.1, b.2);
         large = (g.0, f.4 large_slot (Some g.0) g.1, g.2);

@@ -11,3 +11,4 @@ pub mod Ending
 pub mod Counting
 pub mod Denying
 pub mod Turns
+pub mod Filling

@@ -2,6 +2,5 @@ pub mod Token
 pub mod Seated
 pub mod Calls
 pub mod Roots
-pub mod Words
 pub mod Counts
 pub mod Turns

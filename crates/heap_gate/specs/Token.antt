@@ -28,11 +28,12 @@ pub record HeapToken : Type 0 where
   pub table : TableId
   pub opening : Opening
 
-pub record IsHeap (table : TableId) (key opening : Opening) : Type 0 where
+pub record IsHeap (table : TableId) (key opening : Opening) (closing : List ℕ) : Type 0 where
   pub same : key ≡ opening
   pub words : table.words ≡ word_count opening.limits
   pub slots : table.slots ≡ 3
   pub valid : AreValid opening.limits
+  pub room : length closing ≡ word_count opening.limits
 
 ---- A caller
 

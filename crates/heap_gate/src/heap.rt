@@ -4,7 +4,7 @@ ghost use Rattle.heap_model.specs.Limits.{AreValid};
 
 use atomic_table::Table;
 use claim_rule::{HeapRule, View};
-use heap_model::{Limits, Opening, Stands};
+use heap_model::{Limits, Opening, Stands, Words};
 use std::alloc::Global;
 use std::marker::Model;
 
@@ -14,6 +14,8 @@ use std::marker::Model;
 pub struct Heap<T: Stands> {
     pub table: Table<Option<T>, View, Opening, HeapRule<T>, Global>,
     pub opening: Opening,
+    /// Room for the words, once the heap is closed.
+    pub closing: Words,
 }
 
 impl<T: Stands> Model for Heap<T> {
@@ -23,7 +25,7 @@ impl<T: Stands> Model for Heap<T> {
 
     ghost view = { λ h. record { table = h.table.shared.table_id; opening = h.opening } };
 
-    ghost invariant = { λ h. IsHeap h.table.shared.table_id h.table.shared.key h.opening };
+    ghost invariant = { λ h. IsHeap h.table.shared.table_id h.table.shared.key h.opening h.closing };
 }
 
 impl<T: Stands> Heap<T> {

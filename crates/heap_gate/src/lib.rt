@@ -16,7 +16,7 @@ mod seats;
 mod steps;
 
 pub use caller::{Caller, enter_now, leave, leave_denying};
-pub use closed::{Closed, Words};
+pub use closed::Closed;
 pub use heap::Heap;
 pub use heap_lock::{lock_gate, unlock_gate};
 pub use locks::{give_lock, give_lock_denying, take_lock};

@@ -131,7 +131,7 @@ fn end(
     let closed = close_table(heap, root);
     assert_eq!(rt; [closed.vs.turns, closed.back.turns, closed.large.turns], turns);
     for lock in LOCKS..LOCKS + 4 {
-        assert_eq!(rt; closed.words.word(lock), 0);
+        assert_eq!(rt; closed.words.at(lock as u64), 0);
     }
 }
 

@@ -1,21 +1,21 @@
 //! The root, which makes callers and takes them in again.
-ghost use Rattle.std.specs.Prelude.{◌≡◌, ◌<◌, ℕ, true, false, [], ◌∷◌, ◌++◌, length, IfOk, Some};
+ghost use Rattle.std.specs.Prelude.{◌≡◌, ◌<◌, ◌≤◌, ℕ, true, false, [], ◌∷◌, ◌++◌, length, slice_index, IfOk, Some};
 ghost use Rattle.heap_model.specs.Limits.{AreValid};
 ghost use Rattle.heap_model.specs.State.{is_among, opening};
 ghost use Rattle.heap_model.specs.History.{configuration_of};
 ghost use Rattle.claim_rule.specs.Entries.{IsLegalWith, setting_of};
-ghost use Rattle.claim_rule.specs.Places.{word_count};
+ghost use Rattle.claim_rule.specs.Places.{word_count, made_word};
 ghost use Rattle.heap_model.specs.Layers.{StandsForVs, StandsForBack, StandsForLarge};
 ghost use Rattle.claim_rule.specs.Shown.{AreAllShown};
 ghost use Rattle.heap_gate.specs.Roots.{AreTheirs, HaveMet, HasJoined, IsAtRest, is_of, fresh_caller, fresh_root, opened_with};
 
 use crate::caller::Caller;
-use crate::closed::{Closed, Words};
+use crate::closed::{Closed, copied, held};
 use crate::heap::Heap;
 use crate::seats::{agree, count, deal, hear, relayed, take_in, tell};
 use arrayvec::ArrayVec;
 use atomic_table::Table;
-use heap_model::{Limits, Opening, OutOfMemory, Stands};
+use heap_model::{Limits, Opening, OutOfMemory, Stands, Words};
 use rand_pcg::Pcg32;
 use random_pick::Draws;
 use std::alloc::Global;
@@ -49,7 +49,32 @@ fn words_of(limits: &Limits) -> usize
     2182 + 197_888 * limits.segments as usize + 512 * limits.large_pages as usize
 }
 
-/// A new heap with the states of its layers, and its root.
+// The slots of a new table.
+fn slots_of<T: Drop>(
+    alloc: Global,
+    vs: T,
+    back: T,
+    large: T,
+) -> Result<Vec<Option<T>>, OutOfMemory>
+    ensures { IfOk result (λ slots. slots.items ≡ Some vs ∷ Some back ∷ Some large ∷ []) }
+{
+    let mut slots = Vec::with_capacity(alloc, 3)?;
+    match slots.push(Some(vs)) {
+        Ok(()) => {}
+        Err(_) => return Err(OutOfMemory),
+    }
+    match slots.push(Some(back)) {
+        Ok(()) => {}
+        Err(_) => return Err(OutOfMemory),
+    }
+    match slots.push(Some(large)) {
+        Ok(()) => {}
+        Err(_) => return Err(OutOfMemory),
+    }
+    Ok(slots)
+}
+
+/// A new heap with the states of its layers, and its root. The memory for the words of the closed heap is taken here too.
 pub fn open<T: Stands + Drop>(
     alloc: Global,
     limits: Limits,
@@ -65,24 +90,19 @@ pub fn open<T: Stands + Drop>(
     ensures { IfOk result (λ r. (r.0.opening ≡ opened_with limits seed) × (r.1 ≡ fresh_root r.0.table r.0.opening)) }
 {
     let opening = Opening { limits, seed };
-    let words = vec![in alloc; 0; words_of(&limits)]?;
-    let mut slots = Vec::with_capacity(alloc, 3)?;
-    match slots.push(Some(vs)) {
-        Ok(()) => {}
-        Err(_) => return Err(OutOfMemory),
-    }
-    match slots.push(Some(back)) {
-        Ok(()) => {}
-        Err(_) => return Err(OutOfMemory),
-    }
-    match slots.push(Some(large)) {
-        Ok(()) => {}
-        Err(_) => return Err(OutOfMemory),
-    }
+    let count = words_of(&limits);
+    let words = vec![in alloc; 0; count]?;
+    let closing = Words::new(alloc, count)?;
+    let slots = slots_of(alloc, vs, back, large)?;
     let Ok((table, place)) = Table::new(alloc, words.as_slice(), slots, &opening) else {
         return Err(OutOfMemory);
     };
-    Ok((Heap { table, opening }, Root { place, made: 0 }))
+    let heap = Heap {
+        table,
+        opening,
+        closing,
+    };
+    Ok((heap, Root { place, made: 0 }))
 }
 
 /// The next caller, with the slot and the stream that it is made with. The seed is that of the heap.
@@ -152,7 +172,8 @@ pub fn join<T: Stands>(heap: &Heap<T>, root: &mut Root<T>, c: Caller<T>)
     hear(&heap.table.shared, &mut root.place);
 }
 
-/// Closes a heap whose callers have all joined. Its words and states show the final history, which is the root's list.
+/// Closes a heap whose callers have all joined. Its words and states show the final history, which is the root's list. It takes
+/// no memory.
 pub fn close_table<T: Stands>(heap: Heap<T>, root: Root<T>) -> Closed<T>
     requires table { (root.table ≡ heap.table) × (root.opening ≡ heap.opening) }
     requires joined { (n : ℕ) → n < length root.roll → is_among n root.joined ≡ true }
@@ -162,34 +183,29 @@ pub fn close_table<T: Stands>(heap: Heap<T>, root: Root<T>) -> Closed<T>
     ensures theirs { AreTheirs root.joined root.lists root.seen }
     ensures rest { IsAtRest (configuration_of (setting_of root.opening root.roll) root.seen).state }
     ensures words { AreAllShown root.opening.limits (length root.roll) (configuration_of (setting_of root.opening root.roll) root.seen) [] result.words }
+    ensures made { slice_index result.words made_word ≤ root.opening.limits.callers }
     ensures vs { StandsForVs root.opening (configuration_of (setting_of root.opening root.roll) root.seen).state (T.stands result.vs) }
     ensures back { StandsForBack root.opening (configuration_of (setting_of root.opening root.roll) root.seen).state (T.stands result.back) }
     ensures large { StandsForLarge root.opening (configuration_of (setting_of root.opening root.roll) root.seen).state (T.stands result.large) }
 {
     let last = Snapshot::of(&root);
     let Root { place, made: _ } = root;
-    let Heap { table, opening: _ } = heap;
+    let Heap {
+        table,
+        opening: _,
+        closing,
+    } = heap;
     let mut closed = table.close_with(place);
     let vs = held(closed.take(0));
     let back = held(closed.take(1));
     let large = held(closed.take(2));
-    let words = Words { closed };
+    let words = copied(&closed, closing);
+    closed.free();
     Closed {
         words,
         vs,
         back,
         large,
         last,
-    }
-}
-
-// The state that a full slot has.
-fn held<T>(slot: Option<T>) -> T
-    requires { (t : T) × (slot ≡ Some t) }
-    ensures { slot ≡ Some result }
-{
-    match slot {
-        Some(state) => state,
-        None => unreachable!(),
     }
 }

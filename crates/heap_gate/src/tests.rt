@@ -79,10 +79,10 @@ fn end(
     join(&heap, &mut root, a);
     join(&heap, &mut root, b);
     let closed = close_table(heap, root);
-    assert_eq!(rt; closed.words.word(MADE), 2);
-    assert_eq!(rt; closed.words.word(GATE), 0);
+    assert_eq!(rt; closed.words.at(MADE as u64), 2);
+    assert_eq!(rt; closed.words.at(GATE as u64), 0);
     for lock in LOCKS..LOCKS + 4 {
-        assert_eq!(rt; closed.words.word(lock), 0);
+        assert_eq!(rt; closed.words.at(lock as u64), 0);
     }
 }
 
@@ -355,8 +355,8 @@ fn in_two_threads<R: Threads + Sync>(
 fn two_threads(rt: HostRuntime) -> Result<(), Fail> {
     let (heap, root, a, b) = two(rt.alloc())?;
     let (closed, a, b) = in_two_threads(&rt, heap, root, a, b, 20000);
-    assert_eq!(rt; closed.words.word(MADE), 2);
-    assert_eq!(rt; closed.words.word(GATE), 0);
+    assert_eq!(rt; closed.words.at(MADE as u64), 2);
+    assert_eq!(rt; closed.words.at(GATE as u64), 0);
     for times in [a, b] {
         assert!(rt; 0 < times.entered && times.entered <= 20000, "{times:?}");
         assert!(rt; 0 < times.locked && times.locked <= 20000, "{times:?}");

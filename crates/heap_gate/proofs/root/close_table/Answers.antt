@@ -1,7 +1,9 @@
-use Rattle.std.proofs.Common.{[], ◌≡◌, ℕ, ◌<◌, true, ◌∙◌, ap, sym, subst, List, Option, Some, length}
+use Rattle.std.proofs.Common.{[], ◌≡◌, ℕ, ◌<◌, ◌≤◌, true, ◌∙◌, ap, sym, subst, List, Option, Some, length}
 use mathlib.Core.Option.{some-injective}
 use lib.ListN.{get_elem?}
-use Rattle.std.specs.Slots.{slots_items}
+use Rattle.std.specs.Prelude.{slice_index}
+use Rattle.std.specs.Slots.{slots_items, slots_len}
+use Rattle.claim_rule.specs.Places.{made_word, word_count}
 use Rattle.heap_model.specs.State.{is_among}
 use Rattle.heap_model.specs.History.{configuration_of}
 use Rattle.heap_model.specs.declared.Opening.{Opening}
@@ -61,6 +63,10 @@ returns-clause-rest g c =
     subst (λ (t : RootToken). IsAtRest (configuration_of (setting_of t.opening t.roll) t.seen).state) c.root.view_is
     (subst (λ (x : Opening). IsAtRest (configuration_of (setting_of x (roll_in r.place.me.0.role)) r.place.me.0.seen).state) (sym opened) f.rest)
 
+-- the words are those that the closed table had
+closed_words : (g : _) (c : goal.After-free g) → c.copied-words.result ≡ slots_items c.close_with-closed.result.words
+closed_words g c = c.copied-words.ensures ∙ ap (λ w. slots_items w) (c.take-3.ensures.others.3 ∙ (c.take-2.ensures.others.3 ∙ c.take.ensures.others.3))
+
 pub returns-clause-words : goal.returns-clause-words
 returns-clause-words g c =
     let r = c.root.inside in let o = c.heap.inside.table.shared.key in
@@ -68,10 +74,35 @@ returns-clause-words g c =
     let all = subst (λ (t : RootToken). (n : ℕ) → n < length t.roll → is_among n t.joined ≡ true) (sym c.root.view_is) c.requires.joined in
     let f = ended g.T.Stands.stands o r.place.id r.made r.place.me (slots_items c.close_with-closed.result.words) (slots_items c.close_with-closed.result.slots) c.root.invariant opened all c.close_with-closed.ensures.values.2 in
     let R = roll_in r.place.me.0.role in let l = r.place.me.0.seen in
+    subst (λ (t : RootToken). AreAllShown t.opening.limits (length t.roll) (configuration_of (setting_of t.opening t.roll) t.seen) [] c.copied-words.result) c.root.view_is
+    (subst (λ (x : Opening). AreAllShown x.limits (length R) (configuration_of (setting_of x R) l) [] c.copied-words.result) (sym opened)
+    (subst (AreAllShown o.limits (length R) (configuration_of (setting_of o R) l) []) (sym (closed_words g c)) f.words))
+
+pub returns-clause-made : goal.returns-clause-made
+returns-clause-made g c =
+    let r = c.root.inside in let o = c.heap.inside.table.shared.key in
+    let opened : r.place.me.0.opening ≡ o = ap (λ (t : RootToken). t.opening) c.root.view_is ∙ (c.requires.table.1 ∙ (ap (λ (t : HeapToken). t.opening) (sym c.heap.view_is) ∙ sym c.heap.invariant.same)) in
+    let all = subst (λ (t : RootToken). (n : ℕ) → n < length t.roll → is_among n t.joined ≡ true) (sym c.root.view_is) c.requires.joined in
+    let f = ended g.T.Stands.stands o r.place.id r.made r.place.me (slots_items c.close_with-closed.result.words) (slots_items c.close_with-closed.result.slots) c.root.invariant opened all c.close_with-closed.ensures.values.2 in
+    subst (λ (t : RootToken). slice_index c.copied-words.result made_word ≤ t.opening.limits.callers) c.root.view_is
+    (subst (λ (x : Opening). slice_index c.copied-words.result made_word ≤ x.limits.callers) (sym opened)
+    (subst (λ (ws : List ℕ). slice_index ws made_word ≤ o.limits.callers) (sym (closed_words g c)) f.made))
+
+pub copied-words-requires-clause-many : goal.copied-words-requires-clause-many
+copied-words-requires-clause-many g c =
+    let r = c.root.inside in let o = c.heap.inside.table.shared.key in
+    let opened : r.place.me.0.opening ≡ o = ap (λ (t : RootToken). t.opening) c.root.view_is ∙ (c.requires.table.1 ∙ (ap (λ (t : HeapToken). t.opening) (sym c.heap.view_is) ∙ sym c.heap.invariant.same)) in
+    let all = subst (λ (t : RootToken). (n : ℕ) → n < length t.roll → is_among n t.joined ≡ true) (sym c.root.view_is) c.requires.joined in
+    let f = ended g.T.Stands.stands o r.place.id r.made r.place.me (slots_items c.close_with-closed.result.words) (slots_items c.close_with-closed.result.slots) c.root.invariant opened all c.close_with-closed.ensures.values.2 in
     let ws : slots_items c.take-3.new.self.words ≡ slots_items c.close_with-closed.result.words = ap (λ w. slots_items w) (c.take-3.ensures.others.3 ∙ (c.take-2.ensures.others.3 ∙ c.take.ensures.others.3)) in
-    subst (λ (t : RootToken). AreAllShown t.opening.limits (length t.roll) (configuration_of (setting_of t.opening t.roll) t.seen) [] (slots_items c.take-3.new.self.words)) c.root.view_is
-    (subst (λ (x : Opening). AreAllShown x.limits (length R) (configuration_of (setting_of x R) l) [] (slots_items c.take-3.new.self.words)) (sym opened)
-    (subst (AreAllShown o.limits (length R) (configuration_of (setting_of o R) l) []) (sym ws) f.words))
+    let ls : slots_len c.take-3.new.self.words ≡ slots_len c.close_with-closed.result.words = ap (λ w. slots_len w) (c.take-3.ensures.others.3 ∙ (c.take-2.ensures.others.3 ∙ c.take.ensures.others.3)) in
+    let wide : length (slots_items c.close_with-closed.result.words) ≡ word_count o.limits = f.words.wide in
+    ap length ws ∙ (wide ∙ (ap (λ (x : Opening). word_count x.limits) c.heap.invariant.same ∙ (sym c.heap.invariant.words ∙ (sym c.close_with-closed.ensures.counts.0 ∙ sym ls))))
+
+pub copied-words-requires-clause-room : goal.copied-words-requires-clause-room
+copied-words-requires-clause-room g c =
+    let ls : slots_len c.take-3.new.self.words ≡ slots_len c.close_with-closed.result.words = ap (λ w. slots_len w) (c.take-3.ensures.others.3 ∙ (c.take-2.ensures.others.3 ∙ c.take.ensures.others.3)) in
+    c.heap.invariant.room ∙ (sym c.heap.invariant.words ∙ (sym c.close_with-closed.ensures.counts.0 ∙ sym ls))
 
 pub returns-clause-vs : goal.returns-clause-vs
 returns-clause-vs g c =
