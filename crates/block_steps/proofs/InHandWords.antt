@@ -1,5 +1,5 @@
 -- The words behind a step on a block in hand: its bit is cleared, or its size word is written.
-use Rattle.std.proofs.Common.{◌≡◌, ℕ, ◌+◌, ◌-◌, ◌*◌, ◌/◌, ◌%◌, ◌<◌, true, false, List, length, get_or, set, bit_and, w64, refl, sym, ap, ◌∙◌, subst, arith, Option, Some, None, inl, inr}
+use Rattle.std.proofs.Common.{◌≡◌, ℕ, ◌+◌, ◌*◌, ◌/◌, ◌%◌, ◌<◌, true, false, List, length, get_or, set, bit_and, w64, refl, sym, ap, ◌∙◌, subst, arith, Option, Some, None, inl, inr}
 use Rattle.std.specs.Prelude.{unwrap_or, option_map}
 use Rattle.std.specs.Int.{bit_not}
 use Rattle.std.specs.List.{find}
@@ -24,7 +24,6 @@ use Rattle.claim_rule.specs.declared.views.Owed.{Owed}
 use Rattle.claim_rule.specs.Places.{word_count, bitmap_at, bit_of_block, size_at}
 use Rattle.claim_rule.specs.Shown.{AreAllShown, lfh_spans, bitmap_word, size_word}
 use Rattle.claim_rule.specs.Entries.{entry}
-use Rattle.claim_rule.proofs.Advance.{acts}
 use Rattle.step_parts.specs.Seen.{IsSeen}
 use Rattle.step_parts.specs.InHand.{IsInHand}
 use Rattle.claim_rule.proofs.Behind.{stays, owed_soundly, shown_behind}

@@ -3,7 +3,6 @@ use Rattle.std.proofs.Common.{◌≡◌, ℕ, ◌+◌, ◌-◌, ◌*◌, ◌/◌
 use Rattle.std.specs.Prelude.{unwrap_or, option_map}
 use Rattle.std.specs.List.{find}
 use Rattle.std.proofs.lemmas.Bool.{cases_Bool, and_parts, and_from, eqb-true, false≢true}
-use mathlib.Core.Option.{some}
 use Rattle.heap_model.specs.declared.Act.TheVariants as acts
 use Rattle.heap_model.specs.declared.Kind.TheVariants as kinds
 use Rattle.heap_model.specs.declared.Layer.{Layer}
@@ -17,7 +16,7 @@ use Rattle.heap_soundness.specs.Invariant.{Keeps}
 use Rattle.heap_soundness.proofs.Lists.{all_at, any_found, found_in, found_passes}
 use Rattle.heap_soundness.proofs.Spans.{same_span}
 use Rattle.claim_rule.specs.Shown.{size_word}
-use Rattle.claim_rule.proofs.Advance.{before, acts}
+use Rattle.claim_rule.proofs.Advance.{before}
 use Rattle.step_parts.proofs.FrontEnd.{IsFront, some_pages}
 use Rattle.step_parts.proofs.BlockWords.{seat_at}
 use Rattle.step_parts.proofs.Starts.{begins}

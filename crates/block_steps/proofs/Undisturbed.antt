@@ -81,17 +81,17 @@ or_parts : (a b : Bool) → (a || b) ≡ false → (a ≡ false) × (b ≡ false
 or_parts true b e = absurd (true≢false e)
 or_parts false b e = (refl, e)
 
-undisturbed_act : (s : Setting) (m : Configuration) (c n : ℕ) (act : Act) → (c ≡ n → ⊥) → disturbed_after m.state.gate m.now.disturbed c act n ≡ false → m.now.disturbed n ≡ false
-undisturbed_act s m c n (acts.Begin call) ne e = sym (other_one m.now.disturbed c n _ ne) ∙ e
-undisturbed_act s m c n acts.Enter ne e = (or_parts (not (eqb n c)) (m.now.disturbed n) e).1
-undisturbed_act s m c n _ ne e = e
+undisturbed_before : (s : Setting) (m : Configuration) (c n : ℕ) (act : Act) → (c ≡ n → ⊥) → disturbed_after m.state.gate m.now.disturbed c act n ≡ false → m.now.disturbed n ≡ false
+undisturbed_before s m c n (acts.Begin call) ne e = sym (other_one m.now.disturbed c n _ ne) ∙ e
+undisturbed_before s m c n acts.Enter ne e = (or_parts (not (eqb n c)) (m.now.disturbed n) e).1
+undisturbed_before s m c n _ ne e = e
 
 -- who was disturbed stays so
 pub undisturbed_on : (s : Setting) (m : Configuration) (n : ℕ) (es : List Entry) → own n es ≡ [] → (configuration_after s m es).now.disturbed n ≡ false → m.now.disturbed n ≡ false
 undisturbed_on s m n [] o e = e
 undisturbed_on s m n (x ∷ es) o e = elim (cases_Bool (eqb x.caller n)) [
   | inl f ↦ let g : x ∷ own n es ≡ [] = (rw f at o) in absurd (let z : ⊥ = cc in z)
-  | inr f ↦ undisturbed_act s m x.caller n x.act (Rattle.std.proofs.lemmas.Bool.eqb-false x.caller n f) (undisturbed_on s (after s m x) n es (rw f at o) e)
+  | inr f ↦ undisturbed_before s m x.caller n x.act (Rattle.std.proofs.lemmas.Bool.eqb-false x.caller n f) (undisturbed_on s (after s m x) n es (rw f at o) e)
 ]
 
 -- What n relies on in m, where k is what it knows: it stays disturbed, and where it is not, spans and hints are as it knows them.
@@ -115,9 +115,9 @@ module _ {T : Type 0} (stands : T → LayerState) (o : Opening) (st : TableState
       let d = before stands o st r id n v es at h s q in
       let mine = carried s n (configuration_of s v.seen) (configuration_of s v.seen) es (agrees_self n (configuration_of s v.seen)) refl (h.prepared s q') in
       let in0 : is_entered c0.state.gate n ≡ true = ap (λ (f : GateAndLocks). is_entered f n) (sym mine.gate) ∙ inside in
-      let calm = prepared_undisturbed s (configuration_of s v.seen) n es in0 (h.prepared s q') in
-      let m_calm = undisturbed_through s (configuration_of s r.log) es calm in
-      let k_calm = undisturbed_through s (configuration_of s v.seen) es calm in
+      let quiet = prepared_undisturbed s (configuration_of s v.seen) n es in0 (h.prepared s q') in
+      let m_same = undisturbed_through s (configuration_of s r.log) es quiet in
+      let k_same = undisturbed_through s (configuration_of s v.seen) es quiet in
       let own_is = none_between n r.log v.seen k.seen.list_begins p.3 in
       let is : configuration_after s (configuration_of s v.seen) k.seen.list_begins.0 ≡ configuration_of s r.log = sym (after-append s first_configuration v.seen k.seen.list_begins.0) ∙ ap (configuration_of s) k.seen.list_begins.1 in
       let legal = (legal_parts s r.log (r.shown s q).legal).0 in
@@ -131,10 +131,10 @@ module _ {T : Type 0} (stands : T → LayerState) (o : Opening) (st : TableState
       let down : c1.now.disturbed n ≡ false → c0.now.disturbed n ≡ false = λ e. undisturbed_on s (configuration_of s v.seen) n k.seen.list_begins.0 own_is (ap (λ (m : Configuration). m.now.disturbed n) is ∙ e) in
       record {
         later = λ e. up ((configuration_after s (configuration_of s r.log) es).now.disturbed n)
-            (λ f. true≢false (sym e ∙ (ap (λ (g : ℕ → Bool). g n) k_calm ∙ down (sym (ap (λ (g : ℕ → Bool). g n) m_calm) ∙ f))));
+            (λ f. true≢false (sym e ∙ (ap (λ (g : ℕ → Bool). g n) k_same ∙ down (sym (ap (λ (g : ℕ → Bool). g n) m_same) ∙ f))));
         alone = λ e b t.
             let same = undisturbed_others s (configuration_of s v.seen) n k.seen.list_begins.0 own_is parts.1 (gate_sound_after s first_configuration v.seen parts.0 gate_sound_first) keep0.alone in0
-            (ap (λ (m : Configuration). m.now.disturbed n) is ∙ (sym (ap (λ (g : ℕ → Bool). g n) m_calm) ∙ e)) in
+            (ap (λ (m : Configuration). m.now.disturbed n) is ∙ (sym (ap (λ (g : ℕ → Bool). g n) m_same) ∙ e)) in
             let heap : SameHeap (configuration_of s r.log) (configuration_of s v.seen) = subst (λ (m : Configuration). SameHeap m (configuration_of s v.seen)) is same in
             let heads0 : HintsAreHeads c0 = λ x y first z. ap (λ (w : BackPart). is_head w.area x y first) (sym heap.back) ∙ heads1 x y first (ap (λ (w : SpanHistory). w.hints x y) heap.span_history ∙ z) in
             let m = configuration_after s (configuration_of s r.log) es in
