@@ -5,7 +5,7 @@ ghost use Rattle.call_laws.specs.Words.{WordsChangeByStores, CopiesKeep, ZeroesS
 ghost use Rattle.call_laws.specs.Blocks.{Taking, Sizing, Resizing, Giving, Dropping, Loading, Storing, PlacingLarge, PlacingInGap, RefusingLarge, RefusingBack, RefusingVs, FindingNone};
 ghost use Rattle.call_laws.specs.Spans.{AllocationPlaces, ReallocationPlaces, PlacingBack, ReservingBack, DroppingBack, PlacingInSpan, ReservingSpan, EndingSpan, Freeing, FreeingBack};
 ghost use Rattle.call_laws.specs.Told.{OwnActsAnswer, FirstIsBefore, FindingStays};
-ghost use Rattle.call_laws.specs.Kept.{ReallocationKeeps};
+ghost use Rattle.call_laws.specs.Kept.{ReallocationKeeps, AllocationZeroes, ReallocationZeroes};
 
 /// A data word changes by Stores alone.
 pub fn words_change_by_stores()
@@ -160,4 +160,14 @@ pub fn finding_stays()
 /// A reallocation keeps the words of its block.
 pub fn reallocation_keeps()
     ensures { ReallocationKeeps }
+{}
+
+/// A block that was asked with zeroes has zeroes.
+pub fn allocation_zeroes()
+    ensures { AllocationZeroes }
+{}
+
+/// The words that a reallocation with zeroes gains are 0.
+pub fn reallocation_zeroes()
+    ensures { ReallocationZeroes }
 {}
