@@ -1,5 +1,5 @@
 -- A reallocation keeps the words of its block.
-use Rattle.std.proofs.Common.{◌≡◌, ℕ, ◌+◌, ◌-◌, ◌*◌, ◌/◌, ◌<◌, Bool, true, false, ◌&&◌, ◌||◌, not, List, [], ◌∷◌, ◌++◌, length, Option, Some, None, refl, sym, ap, subst, ◌∙◌, inl, inr, ◌⊎◌, eqb, arith, append_assoc}
+use Rattle.std.proofs.Common.{◌≡◌, ℕ, ◌+◌, ◌-◌, ◌*◌, ◌/◌, ◌<◌, ◌≤◌, Bool, true, false, ◌&&◌, ◌||◌, not, cond, List, [], ◌∷◌, ◌++◌, length, Option, Some, None, refl, sym, ap, subst, ◌∙◌, inl, inr, ◌⊎◌, eqb, arith, append_assoc}
 use Rattle.std.specs.Prelude.{min}
 use Rattle.std.specs.List.{list_all, list_any}
 use Rattle.std.proofs.lemmas.List.{append-nil}
@@ -17,9 +17,9 @@ use Rattle.heap_model.specs.CallState.{Configuration}
 use Rattle.heap_model.specs.Legal.{may, after, with_status}
 use Rattle.heap_model.specs.History.{configuration_after, may_all_follow}
 use Rattle.heap_model.specs.Moments.{Moment, moments, acts_of, state_before, In, Before}
-use Rattle.heap_model.specs.Shape.{Replied, is_left_out, shape_of, shown, zeros, zeroing_more, copying, moving, is_of_front, TakesAndPlaces, Finds, is_resize, IsResized, IsGivenAgain, IsMoved}
+use Rattle.heap_model.specs.Shape.{Replied, Allocates, zeroing, is_left_out, shape_of, shown, zeros, zeroing_more, copying, moving, is_of_front, TakesAndPlaces, Finds, is_resize, IsResized, IsGivenAgain, IsMoved}
 use Rattle.heap_model.specs.Served.{IsAnswered}
-use Rattle.heap_model.specs.Contents.{is_store_to, is_stored_by_others, puts_back, is_take_of, until_given, HadSize, KeepsContents}
+use Rattle.heap_model.specs.Contents.{is_store_to, is_stored_by_others, puts_back, is_take_of, until_given, HadSize, KeepsContents, IsZeroed}
 use Rattle.heap_soundness.specs.Sound.{IsOneOf, AreApart}
 use Rattle.heap_soundness.specs.Invariant.{Keeps}
 use Rattle.heap_soundness.proofs.Kept.{keeps_through}
@@ -28,11 +28,11 @@ use Rattle.heap_soundness.proofs.Whole.{all_disjoint}
 use Rattle.serial_laws.proofs.Turns.{configuration-append}
 use Rattle.call_laws.specs.Within.{by_caller, IsReached}
 use Rattle.call_laws.specs.Words.{is_of_word, word_acts}
-use Rattle.call_laws.specs.Kept.{ReallocationKeeps}
+use Rattle.call_laws.specs.Kept.{ReallocationKeeps, AllocationZeroes, ReallocationZeroes}
 use Rattle.call_laws.proofs.Within.{keeps}
-use Rattle.call_laws.proofs.Words.{mine, mine_is, zeros_miss, copies_keep}
+use Rattle.call_laws.proofs.Words.{mine, mine_is, zeros_miss, copies_keep, zeroes_stay}
 use Rattle.call_laws.proofs.Shown.{is_shown, shown_is, words_shown, IsCut, cut, IsSoThere, there, hand_stays, leaves_hands, one_hand}
-use Rattle.call_laws.proofs.Moved.{HasBytes, apart_words, below_words, IsTaken, taken_is, given_bytes, hands_among, made_by, made_in_hand, made_apart, hand_past_take, taken_in_hand, any-append, any-both, words_first, zeros_are, moving_are, all-parts, kept_where, front_legal, front_words}
+use Rattle.call_laws.proofs.Moved.{HasBytes, apart_words, below_words, IsTaken, taken_is, given_bytes, hands_among, made_by, made_in_hand, made_apart, hand_past_take, taken_in_hand, any-append, any-both, words_first, zeros_are, moving_are, all-parts, kept_where, front_legal, front_words, front_alone}
 
 in_map : (P Q : State → Type 0) (o : Option State) → ((st : State) → P st → Q st) → In o P → In o Q
 in_map P Q None f h = absurd h
@@ -51,6 +51,14 @@ any_shown t (x ∷ rest) h = elim (cases_Bool (t x)) [
 any-behind : (t : Act → Bool) (xs : List Act) (y : Act) (ys : List Act) → t y ≡ true → list_any t (xs ++ y ∷ ys) ≡ true
 any-behind t [] y ys h = rw h refl
 any-behind t (x ∷ xs) y ys h = elim (cases_Bool (t x)) [ inl e ↦ rw e refl | inr e ↦ rw e (any-behind t xs y ys h) ]
+
+words-append : (xs ys : List Act) → word_acts (xs ++ ys) ≡ word_acts xs ++ word_acts ys
+words-append [] ys = refl
+words-append (x ∷ xs) ys = go (is_of_word x) (words-append xs ys)
+  where
+    go : (b : Bool) → word_acts (xs ++ ys) ≡ word_acts xs ++ word_acts ys → cond b (x ∷ word_acts (xs ++ ys)) (word_acts (xs ++ ys)) ≡ cond b (x ∷ word_acts xs) (word_acts xs) ++ word_acts ys
+    go true h = ap (λ (l : List Act). x ∷ l) h
+    go false h = h
 
 -- what is put back
 puts_it : (b n : ℕ) → (eqb b b && eqb n n) ≡ true
@@ -231,4 +239,107 @@ reallocation_keeps s m c a n b flags es r legal answered = elim answered.shape [
       subst (λ (z : ℕ). (size : ℕ) × HadSize c a size (moments s c m es) × KeepsContents s c m a size z n es) (sym same)
       (elim h.1 [ inl x ↦ resized s m c a n es r legal flags.zero x | inr x ↦ given_again s m c a n es r legal flags.zero x ])
   | inr h ↦ moved s m c a n es r legal b flags.zero h.1
+]
+
+---- Zeroes
+
+-- what is shown of an allocation
+record IsAllocated (a n : ℕ) (zero_it : Bool) (shape : List Act) : Type 0 where
+  place : Act
+  is : shape ≡ place ∷ (zeroing zero_it a n ++ acts.Give a n ∷ [])
+  not_word : is_of_word place ≡ false
+
+allocated : (a n : ℕ) (zero_it : Bool) (shape : List Act) → Allocates a n zero_it shape → IsAllocated a n zero_it shape
+allocated a n zero_it [] h = absurd h
+allocated a n zero_it (acts.Place start granules layer ∷ rest) h = record { place = acts.Place start granules layer; is = ap (λ (l : List Act). acts.Place start granules layer ∷ l) h.1; not_word = refl }
+allocated a n zero_it (_ ∷ rest) h = absurd h
+
+module _ (s : Setting) (m : Configuration) (c n : ℕ) (es : List Entry) where
+  -- words that were zeroed from one on
+  zeroed_from : (b first count : ℕ) (before : List Act) → mine is_of_word c (until_given c b n es) ≡ before ++ zeros true (b / 8 + first) count → (last : ℕ) → last ≤ first + count → IsZeroed s c m b n first last es
+  zeroed_from b first count before h last e = record {
+    word = λ i low high others.
+    let same : b / 8 + first + (i - first) ≡ b / 8 + i = omega (arith, low) in
+    let front : List Entry = until_given c b n es in
+    subst (λ (w : ℕ). (configuration_after s m front).state.words w ≡ 0) same
+    (zeroes_stay s c m front before (b / 8 + first) count (i - first) (mine_is s c m front ∙ h) (omega (arith, low, high, e))
+    (subst (λ (w : ℕ). is_stored_by_others c w front ≡ false) (sym same) others));
+  }
+
+  abbrev seen : List Moment
+  seen = moments s c m es
+
+  shown_own : (l : List Act) → shown seen ≡ l → mine is_shown c es ≡ l
+  shown_own l h = sym (shown_is s c m es) ∙ h
+
+  -- .. where c shows this, and puts the block back at its end
+  zeroed_alone : (b first count : ℕ) (lead before : List Act) (put : Act) → shown seen ≡ lead ++ (zeros true (b / 8 + first) count ++ put ∷ []) → word_acts lead ≡ before → puts_back b n put ≡ true → is_of_word put ≡ false → (last : ℕ) → last ≤ first + count → IsZeroed s c m b n first last es
+  zeroed_alone b first count lead before put h are t w last e =
+      let z = zeros true (b / 8 + first) count in
+      let list : shown seen ≡ (lead ++ z) ++ put ∷ [] = h ∙ sym (append_assoc lead z (put ∷ [])) in
+      let front : mine is_of_word c (until_given c b n es) ≡ mine is_of_word c es = front_alone s c 0 b n m es (lead ++ z) put (shown_own ((lead ++ z) ++ put ∷ []) list) t in
+      let end : word_acts (put ∷ []) ≡ [] = rw w refl in
+      let words : mine is_of_word c es ≡ before ++ z =
+          words_shown c es ∙ (ap word_acts (shown_own (lead ++ (z ++ put ∷ [])) h)
+          ∙ (words-append lead (z ++ put ∷ []) ∙ (λ i. are i ++ (words_first z (put ∷ []) (zeros_are true (b / 8 + first) count) ∙ (ap (λ (l : List Act). z ++ l) end ∙ append-nil z)) i))) in
+      zeroed_from b first count before (front ∙ words) last e
+
+  -- a block that stays
+  zeroes_here : (a : ℕ) → IsResized s c a n true seen ⊎ IsGivenAgain s c a n true seen → (size : ℕ) × HadSize c a size seen × IsZeroed s c m a n (words_of size) (words_of n) es
+  zeroes_here a (inl x) =
+      (x.size,
+      inr (in_map (Finds s c a n x.old true) (λ st. (p : Place) × (place_at st c a ≡ Some p) × (p.status ≡ Live x.size)) (state_before is_resize seen) (λ st h. (x.old, h.0, x.live)) x.stays),
+      zeroed_alone a (words_of x.size) (words_of n - words_of x.size) [] [] (acts.Resize a x.granules n) x.acts_are refl (puts_it a n) refl (words_of n) (omega arith))
+  zeroes_here a (inr x) =
+      (x.size,
+      inl (any_shown (is_take_of a x.size) (acts_of seen) (ap (list_any (is_take_of a x.size)) x.acts_are ∙ any-behind (is_take_of a x.size) [] (acts.Take a x.size) (zeroing_more true a x.size n ++ acts.Give a n ∷ []) (puts_it a x.size))),
+      zeroed_alone a (words_of x.size) (words_of n - words_of x.size) (acts.Take a x.size ∷ []) [] (acts.Give a n) x.acts_are refl (puts_it a n) refl (words_of n) (omega arith))
+
+  -- a block that moves
+  zeroes_there : (a b : ℕ) → IsMoved s c a n true b seen → (size : ℕ) × HadSize c a size seen × IsZeroed s c m b n (words_of size) (words_of n) es
+  zeroes_there a b x = by_front (is_of_front x.old) x.moves_are
+    where
+      by_front : (front : Bool) → TakesAndPlaces front (acts.Take a x.size) (acts.Place x.made.start x.made.granules x.made.layer) (moving a x.size b n true x.values) x.moves → (size : ℕ) × HadSize c a size seen × IsZeroed s c m b n (words_of size) (words_of n) es
+      by_front true e =
+          let words = moving a x.size b n true x.values in
+          let place = acts.Place x.made.start x.made.granules x.made.layer in
+          let ends = acts.Give b n ∷ acts.Drop a ∷ [] in
+          let list : shown seen ≡ (acts.Take a x.size ∷ place ∷ words) ++ ends = x.acts_are ∙ ap (λ (l : List Act). l ++ ends) e in
+          let all : mine is_of_word c es ≡ words = words_shown c es ∙ (ap word_acts (shown_own ((acts.Take a x.size ∷ place ∷ words) ++ ends) list) ∙ (words_first words ends (moving_are a x.size b n true x.values) ∙ append-nil words)) in
+          (x.size,
+          inl (any_shown (is_take_of a x.size) (acts_of seen) (ap (list_any (is_take_of a x.size)) list ∙ any-behind (is_take_of a x.size) [] (acts.Take a x.size) (place ∷ (words ++ ends)) (puts_it a x.size))),
+          zeroed_from b (words_of x.size) (words_of n - words_of x.size) (copying (a / 8) (b / 8) x.values) (front_words s c a b n m es x.moves (acts.Give b n) (acts.Drop a) (shown_own (x.moves ++ ends) x.acts_are) (puts_it b n) refl ∙ all) (words_of n) (omega arith))
+      by_front false e =
+          let words = moving a x.size b n true x.values in
+          let place = acts.Place x.made.start x.made.granules x.made.layer in
+          let take = acts.Take a x.size in
+          let ends = acts.Give b n ∷ acts.Drop a ∷ [] in
+          let are : list_all is_of_word (e.0 ++ e.1) ≡ true = ap (list_all is_of_word) (sym e.2) ∙ moving_are a x.size b n true x.values in
+          let two = all-parts e.0 e.1 are in
+          let list : shown seen ≡ (place ∷ (e.0 ++ take ∷ e.1)) ++ ends = x.acts_are ∙ ap (λ (l : List Act). l ++ ends) e.3 in
+          let all : mine is_of_word c es ≡ words =
+              words_shown c es ∙ (ap word_acts (shown_own ((place ∷ (e.0 ++ take ∷ e.1)) ++ ends) list)
+              ∙ (ap word_acts (append_assoc e.0 (take ∷ e.1) ends)
+              ∙ (words_first e.0 (take ∷ (e.1 ++ ends)) two.0
+              ∙ (ap (λ (l : List Act). e.0 ++ l) (words_first e.1 ends two.1 ∙ append-nil e.1) ∙ sym e.2)))) in
+          (x.size,
+          inl (any_shown (is_take_of a x.size) (acts_of seen) (ap (list_any (is_take_of a x.size)) (list ∙ ap (λ (l : List Act). place ∷ l) (append_assoc e.0 (take ∷ e.1) ends)) ∙ any-behind (is_take_of a x.size) (place ∷ e.0) take (e.1 ++ ends) (puts_it a x.size))),
+          zeroed_from b (words_of x.size) (words_of n - words_of x.size) (copying (a / 8) (b / 8) x.values) (front_words s c a b n m es x.moves (acts.Give b n) (acts.Drop a) (shown_own (x.moves ++ ends) x.acts_are) (puts_it b n) refl ∙ all) (words_of n) (omega arith))
+
+pub allocation_zeroes : AllocationZeroes
+allocation_zeroes s m c n a flags es zero_it answered =
+    let shape : Allocates a n true (shown (moments s c m es)) = subst (λ (z : Bool). Allocates a n z (shown (moments s c m es))) zero_it answered.shape in
+    let x = allocated a n true (shown (moments s c m es)) shape in
+    let w = x.not_word in
+    let first : a / 8 ≡ a / 8 + 0 = omega arith in
+    zeroed_alone s m c n es a 0 (words_of n) (x.place ∷ []) [] (acts.Give a n)
+    (x.is ∙ ap (λ (k : ℕ). x.place ∷ (zeros true k (words_of n) ++ acts.Give a n ∷ [])) first) (rw w refl) (puts_it a n) refl (words_of n) (omega arith)
+
+pub reallocation_zeroes : ReallocationZeroes
+reallocation_zeroes s m c a n b flags es zero_it answered = elim answered.shape [
+  | inl h ↦
+      let same : b ≡ a = h.0 in
+      subst (λ (z : ℕ). (size : ℕ) × HadSize c a size (moments s c m es) × IsZeroed s c m z n (words_of size) (words_of n) es) (sym same)
+      (zeroes_here s m c n es a (subst (λ (z : Bool). IsResized s c a n z (moments s c m es) ⊎ IsGivenAgain s c a n z (moments s c m es)) zero_it h.1))
+  | inr h ↦ zeroes_there s m c n es a b (subst (λ (z : Bool). IsMoved s c a n z b (moments s c m es)) zero_it h.1)
 ]

@@ -9,3 +9,4 @@ pub mod Told
 pub mod Shown
 pub mod Moved
 pub mod KeptWords
+pub mod Exclusive

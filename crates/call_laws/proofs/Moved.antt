@@ -276,6 +276,16 @@ last_two t (y ∷ x ∷ []) zs [] g d e h none w = let is : zs ≡ [] = cc in ap
 last_two t (y ∷ x ∷ v ∷ ys) zs [] g d e h none w = absurd (let z : ⊥ = cc in z)
 last_two t (y ∷ ys) zs (x ∷ xs) g d e h none w = let is : ys ++ zs ≡ xs ++ g ∷ d ∷ [] = cc in last_two t ys zs xs g d is h none w
 
+-- .. or none
+last_one : (t : Act → Bool) (ys zs xs : List Act) (g : Act) → ys ++ zs ≡ xs ++ g ∷ [] → t g ≡ true → list_any t zs ≡ false → word_acts zs ≡ []
+last_one t [] zs xs g e h none =
+    let k : list_any t (xs ++ g ∷ []) ≡ false = ap (list_any t) (sym e) ∙ none in
+    let q : (t g || false) ≡ false = (any-append t xs (g ∷ []) k).1 in
+    let z : true ≡ false = rw h at q in absurd (true≢false z)
+last_one t (y ∷ []) zs [] g e h none = let is : zs ≡ [] = cc in ap word_acts is
+last_one t (y ∷ x ∷ ys) zs [] g e h none = absurd (let z : ⊥ = cc in z)
+last_one t (y ∷ ys) zs (x ∷ xs) g e h none = let is : ys ++ zs ≡ xs ++ g ∷ [] = cc in last_one t ys zs xs g is h none
+
 ---- Words that nobody stores to, up to the last Give
 
 module _ (s : Setting) (c a b n : ℕ) (m : Configuration) (es : List Entry) where
@@ -299,4 +309,10 @@ module _ (s : Setting) (c a b n : ℕ) (m : Configuration) (es : List Entry) whe
   front_words moves g d h t w =
       let all : mine is_shown c front ++ mine is_shown c rest_of.rest ≡ moves ++ g ∷ d ∷ [] = sym (ap (mine is_shown c) rest_of.is ∙ mine-append is_shown c front rest_of.rest) ∙ h in
       let none : mine is_of_word c rest_of.rest ≡ [] = words_shown c rest_of.rest ∙ last_two (puts_back b n) (mine is_shown c front) (mine is_shown c rest_of.rest) moves g d all t (none_put_back c b n rest_of.rest rest_of.none) w in
+      sym (own_words ∙ (ap (λ (l : List Act). mine is_of_word c front ++ l) none ∙ append-nil (mine is_of_word c front)))
+
+  pub front_alone : (moves : List Act) (g : Act) → mine is_shown c es ≡ moves ++ g ∷ [] → puts_back b n g ≡ true → mine is_of_word c front ≡ mine is_of_word c es
+  front_alone moves g h t =
+      let all : mine is_shown c front ++ mine is_shown c rest_of.rest ≡ moves ++ g ∷ [] = sym (ap (mine is_shown c) rest_of.is ∙ mine-append is_shown c front rest_of.rest) ∙ h in
+      let none : mine is_of_word c rest_of.rest ≡ [] = words_shown c rest_of.rest ∙ last_one (puts_back b n) (mine is_shown c front) (mine is_shown c rest_of.rest) moves g all t (none_put_back c b n rest_of.rest rest_of.none) in
       sym (own_words ∙ (ap (λ (l : List Act). mine is_of_word c front ++ l) none ∙ append-nil (mine is_of_word c front)))

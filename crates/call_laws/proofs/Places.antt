@@ -79,7 +79,7 @@ placing_in_gap s m c call n r w lock asked_is route bucket fits =
 
 ---- Refusals
 
-refuses : (s : Setting) (m : Configuration) (c : ℕ) (call : Call) (n : ℕ) → IsWithin m c call → asked_by call ≡ Some n →
+pub refuses : (s : Setting) (m : Configuration) (c : ℕ) (call : Call) (n : ℕ) → IsWithin m c call → asked_by call ≡ Some n →
     has_no_range s m.state c (caller_view m c) (request_of s m c) n (route_of n) ≡ true → LeadsTo s m c call (acts.NoFit n) m.state
 refuses s m c call n w asked_is none =
     leads s m c call (acts.NoFit n) m.state w refl

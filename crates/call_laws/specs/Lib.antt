@@ -4,3 +4,4 @@ pub mod Blocks
 pub mod Spans
 pub mod Told
 pub mod Kept
+pub mod Alone

@@ -5,7 +5,8 @@ ghost use Rattle.call_laws.specs.Words.{WordsChangeByStores, CopiesKeep, ZeroesS
 ghost use Rattle.call_laws.specs.Blocks.{Taking, Sizing, Resizing, Giving, Dropping, Loading, Storing, PlacingLarge, PlacingInGap, RefusingLarge, RefusingBack, RefusingVs, FindingNone};
 ghost use Rattle.call_laws.specs.Spans.{AllocationPlaces, ReallocationPlaces, PlacingBack, ReservingBack, DroppingBack, PlacingInSpan, ReservingSpan, EndingSpan, Freeing, FreeingBack};
 ghost use Rattle.call_laws.specs.Told.{OwnActsAnswer, FirstIsBefore, FindingStays};
-ghost use Rattle.call_laws.specs.Kept.{ReallocationKeeps};
+ghost use Rattle.call_laws.specs.Kept.{ReallocationKeeps, AllocationZeroes, ReallocationZeroes};
+ghost use Rattle.call_laws.specs.Alone.{OpenIsLocked, HandIsExclusive, AllocationHoldsOld, ReallocationHoldsOld, PlacingPicked, FallingIntoGap, RefusingSearched};
 
 /// A data word changes by Stores alone.
 pub fn words_change_by_stores()
@@ -160,4 +161,49 @@ pub fn finding_stays()
 /// A reallocation keeps the words of its block.
 pub fn reallocation_keeps()
     ensures { ReallocationKeeps }
+{}
+
+/// A block that was asked with zeroes has zeroes.
+pub fn allocation_zeroes()
+    ensures { AllocationZeroes }
+{}
+
+/// The words that a reallocation with zeroes gains are 0.
+pub fn reallocation_zeroes()
+    ensures { ReallocationZeroes }
+{}
+
+/// A place of a layer whose lock the caller holds changes by it alone.
+pub fn open_is_locked()
+    ensures { OpenIsLocked }
+{}
+
+/// So does a place in its hand.
+pub fn hand_is_exclusive()
+    ensures { HandIsExclusive }
+{}
+
+/// An allocation decides alone what it places.
+pub fn allocation_holds_old()
+    ensures { AllocationHoldsOld }
+{}
+
+/// A reallocation that holds its block decides alone what it places.
+pub fn reallocation_holds_old()
+    ensures { ReallocationHoldsOld }
+{}
+
+/// The block that a search has picked is made a place.
+pub fn placing_picked()
+    ensures { PlacingPicked }
+{}
+
+/// A block that the front end can't serve goes to a gap.
+pub fn falling_into_gap()
+    ensures { FallingIntoGap }
+{}
+
+/// A block that the front end can't serve, and no range fits, is refused.
+pub fn refusing_searched()
+    ensures { RefusingSearched }
 {}

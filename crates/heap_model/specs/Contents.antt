@@ -1,5 +1,5 @@
 -- The words of blocks: they change by Stores alone, and what a reallocation keeps of them.
-use Rattle.std.specs.Prelude.{◌≡◌, ◌⊎◌, ℕ, ◌+◌, ◌/◌, ◌<◌, ◌==◌, Bool, true, false, ◌&&◌, not, min, List, [], ◌∷◌, Some, if◌then◌else◌}
+use Rattle.std.specs.Prelude.{◌≡◌, ◌⊎◌, ℕ, ◌+◌, ◌/◌, ◌<◌, ◌≤◌, ◌==◌, Bool, true, false, ◌&&◌, not, min, List, [], ◌∷◌, Some, if◌then◌else◌}
 use Rattle.std.specs.List.{list_any}
 use Rattle.heap_model.specs.declared.Act.{Act}
 use Rattle.heap_model.specs.declared.Act.TheVariants as acts
@@ -58,3 +58,8 @@ pub record KeepsContents (s : Setting) (c : ℕ) (k : Configuration) (a m b n : 
   pub word : (i : ℕ) → i < words_of (min m n) →
       is_stored_by_others c (a / 8 + i) (until_given c b n es) ≡ false → is_stored_by_others c (b / 8 + i) (until_given c b n es) ≡ false →
       (configuration_after s k (until_given c b n es)).state.words (b / 8 + i) ≡ k.state.words (a / 8 + i)
+
+-- The words of the block at b from one on up to another are 0 once it is given, unless another caller has stored to them since the entries began.
+pub record IsZeroed (s : Setting) (c : ℕ) (k : Configuration) (b n first last : ℕ) (es : List Entry) : Type 0 where
+  pub word : (i : ℕ) → first ≤ i → i < last → is_stored_by_others c (b / 8 + i) (until_given c b n es) ≡ false →
+      (configuration_after s k (until_given c b n es)).state.words (b / 8 + i) ≡ 0

@@ -48,7 +48,7 @@ inside locks back vs lfh large words others k disturbed history demand = record 
 ---- What the tests come to
 
 -- the block is the one that the search has picked
-picks_it : (b : ℕ) (f : Search) (x : Span) (i : ℕ) → 0 < block_size b → f.picked ≡ Some i → head_of f.read ≡ Some x.first → is_picked_in b f (block_address b x.first i) (block_size b / 16) x ≡ true
+pub picks_it : (b : ℕ) (f : Search) (x : Span) (i : ℕ) → 0 < block_size b → f.picked ≡ Some i → head_of f.read ≡ Some x.first → is_picked_in b f (block_address b x.first i) (block_size b / 16) x ≡ true
 picks_it b f x i some picked read = subst Claim (sym (number_is b x.first i some)) here
   where
     start : ℕ
