@@ -31,7 +31,7 @@ pub fn load<T: Stands>(heap: &Heap<T>, c: &mut Caller<T>, word: u64) -> u64
     ensures stands { Standing c.new (stance c.old) }
 {
     let limits = heap.limits();
-    let at = data_from(&limits) + word as usize;
+    let at = (data_from(&limits) + word) as usize;
     let value =
         load_by::<T, Brand, Brand>(&heap.table.shared, &mut c.place, &c.prepared, word, at);
     c.prepared.clear();
@@ -49,7 +49,7 @@ pub fn store<T: Stands>(heap: &Heap<T>, c: &mut Caller<T>, word: u64, value: u64
     ensures stands { Standing c.new (stance c.old) }
 {
     let limits = heap.limits();
-    let at = data_from(&limits) + word as usize;
+    let at = (data_from(&limits) + word) as usize;
     store_by::<T, Brand, Brand>(
         &heap.table.shared,
         &mut c.place,
