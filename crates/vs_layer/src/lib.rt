@@ -12,6 +12,7 @@
 
 mod counting;
 mod dropping;
+mod index;
 mod placing;
 mod resizing;
 #[cfg(test)]
@@ -26,10 +27,10 @@ ghost use Rattle.vs_layer.specs.Kept.{places_of, active_of, part_of};
 ghost use Rattle.vs_layer.specs.Effects.{nothing_kept, IsOfOneHeap, ShowsChunks};
 
 use counting::Counts;
+use index::GapSet;
 use heap_model::{Limits, OutOfMemory};
 use std::alloc::Global;
 use std::marker::Model;
-use vs_free_tree::FreeIndex;
 use vs_split::Heads;
 
 /// The bytes of a granule.
@@ -66,7 +67,7 @@ pub struct Vs {
 #[derive(Drop)]
 pub(crate) struct Tiling {
     heads: Heads,
-    index: FreeIndex,
+    index: GapSet,
 }
 
 impl Model for Vs {
@@ -90,7 +91,7 @@ impl Vs {
         Ok(Vs {
             tiling: Tiling {
                 heads: Heads::new(alloc, limits, key)?,
-                index: FreeIndex::new(alloc, SEGMENT_GAPS * limits.segments)?,
+                index: GapSet::new(alloc, SEGMENT_GAPS * limits.segments)?,
             },
             pages: vec![in alloc; 0u8; pages]?,
             counts: Counts::new(alloc)?,
