@@ -12,6 +12,7 @@
 
 mod counting;
 mod dropping;
+mod index;
 mod placing;
 mod resizing;
 #[cfg(test)]
@@ -30,9 +31,9 @@ ghost use Rattle.vs_layer.specs.Standing.{layer_of, Becomes, with_active};
 
 use counting::Counts;
 use heap_model::{FRONT_GRANULES, GRANULE_BYTES, Limits, OutOfMemory, PAGE_BYTES, SEGMENT_PAGES, Stands, filled};
+use index::GapSet;
 use std::alloc::Global;
 use std::marker::Model;
-use vs_free_tree::FreeIndex;
 use vs_split::Heads;
 
 /// The most gaps that a segment can have: between two of them lies a place, and each has 2 granules or more.
@@ -66,7 +67,7 @@ pub struct Vs {
 #[derive(Drop)]
 pub(crate) struct Tiling {
     heads: Heads,
-    index: FreeIndex,
+    index: GapSet,
 }
 
 impl Model for Vs {
@@ -100,7 +101,7 @@ impl Vs {
             limits: *limits,
             tiling: Tiling {
                 heads: Heads::new(alloc, limits, key)?,
-                index: FreeIndex::new(alloc, SEGMENT_GAPS * limits.segments)?,
+                index: GapSet::new(alloc, SEGMENT_GAPS * limits.segments)?,
             },
             pages: filled(alloc, 0u8, pages)?,
             counts: Counts::new(alloc)?,
