@@ -1,17 +1,13 @@
 -- The rows of entries on blocks, for any caller.
-use Rattle.std.proofs.Common.{◌≡◌, ℕ, ◌+◌, ◌*◌, ◌/◌, ◌<◌, ◌==◌, Bool, true, false, ◌&&◌, ◌||◌, not, List, [], ◌∷◌, ◌++◌, Option, Some, None, refl, sym, ap, subst, ◌∙◌, inl, inr, eqb, ltb}
-use Rattle.std.proofs.lemmas.Bool.{cases_Bool, and_from, and_parts, eq-eqb, lt-ltb, or_right, false≢true}
-use Rattle.heap_model.specs.declared.Act.{Act}
+use Rattle.std.proofs.Common.{◌≡◌, ◌&&◌, not, Option, Some, refl, ap, ◌∙◌, eqb, ltb}
+use Rattle.std.proofs.lemmas.Bool.{and_from, eq-eqb, lt-ltb}
 use Rattle.heap_model.specs.declared.Act.TheVariants as acts
-use Rattle.heap_model.specs.declared.Call.{Call}
-use Rattle.heap_model.specs.declared.Layer.{Layer}
 use Rattle.heap_model.specs.declared.Layer.TheVariants as layers
-use Rattle.heap_model.specs.State.{Setting, State, Place, Live, InHand, address, is_live_of, is_live, is_live_at, is_hand_at, change_found, remove_found, is_layer}
+use Rattle.heap_model.specs.State.{Place, Live, InHand, address, is_live_of, is_live, is_live_at, is_hand_at, change_found, remove_found, is_layer}
 use Rattle.heap_model.specs.Stay.{for_some, lets_stay, resized}
-use Rattle.heap_model.specs.CallState.{Configuration, Demand, Nothing, caller_view}
-use Rattle.heap_model.specs.Legal.{may, may_follow, after, may_touch, suits, with_places, with_status, layer_of, area_with, resize_place, unspan_of, is_resized, data_words}
-use Rattle.call_laws.specs.Within.{by_caller, IsReached, IsWithin, LeadsTo}
-use Rattle.call_laws.specs.Blocks.{IsOpenTo, Taking, Sizing, Resizing, Giving, Dropping, Loading, Storing, resized_state}
+use Rattle.heap_model.specs.CallState.{Nothing, caller_view}
+use Rattle.heap_model.specs.Legal.{may_touch, suits, with_places, with_status, layer_of, area_with, resize_place, unspan_of, is_resized, data_words}
+use Rattle.call_laws.specs.Blocks.{Taking, Sizing, Resizing, Giving, Dropping, Loading, Storing, resized_state}
 use Rattle.call_laws.proofs.Within.{leads, keeps, place_is, hand_is}
 
 pub taking : Taking

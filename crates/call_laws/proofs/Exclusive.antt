@@ -1,9 +1,8 @@
 -- What c alone decides of its entries, and the entries of a search.
-use Rattle.std.proofs.Common.{◌≡◌, ℕ, ◌+◌, ◌*◌, ◌/◌, ◌≤◌, ◌==◌, Bool, true, false, ◌&&◌, ◌||◌, not, List, [], ◌∷◌, ◌++◌, Option, Some, None, refl, sym, ap, subst, ◌∙◌, inl, inr, ◌⊎◌, eqb, leb}
+use Rattle.std.proofs.Common.{◌≡◌, ℕ, ◌*◌, ◌/◌, Bool, true, false, ◌&&◌, ◌||◌, not, List, ◌∷◌, ◌++◌, Option, Some, refl, sym, ap, ◌∙◌, eqb}
 use Rattle.std.specs.Prelude.{is_none, option_and_then}
 use Rattle.std.specs.List.{find, list_any}
-use Rattle.std.proofs.Math.Bool.{and-false}
-use Rattle.std.proofs.lemmas.Bool.{cases_Bool, and_from, eq-eqb, eqb-true, or_right, le-leb, false≢true, true≢false}
+use Rattle.std.proofs.lemmas.Bool.{and_from, eq-eqb, eqb-true, or_right, le-leb, false≢true, true≢false}
 use Rattle.heap_model.specs.declared.Act.TheVariants as acts
 use Rattle.heap_model.specs.declared.Call.{Call}
 use Rattle.heap_model.specs.declared.Layer.{Layer}
@@ -12,15 +11,14 @@ use Rattle.heap_model.specs.declared.What.TheVariants as whats
 use Rattle.heap_model.specs.Geometry.{route_of, is_small, is_variable, units_of, span_pages_of}
 use Rattle.heap_model.specs.Buckets.{bucket_of, block_size, block_address}
 use Rattle.heap_model.specs.Runs.{Run}
-use Rattle.heap_model.specs.State.{Setting, State, Span, Place, Status, InHand, is_layer, address, has_address, hands, holds, guarded, exclusive_places, places_of, all_places}
-use Rattle.heap_model.specs.Backend.{back_place}
+use Rattle.heap_model.specs.State.{Setting, State, Place, InHand, is_layer, address, has_address, hands, holds, guarded, exclusive_places, places_of, all_places}
 use Rattle.heap_model.specs.Ranges.{gaps, vs_place}
 use Rattle.heap_model.specs.Stay.{for_some}
 use Rattle.heap_model.specs.Bits.{starts_at}
 use Rattle.heap_model.specs.CallState.{Configuration, CallerView, caller_view}
-use Rattle.heap_model.specs.Search.{asked, asked_by, Request, request_of, spans_of}
-use Rattle.heap_model.specs.Legal.{after, may_touch, is_picked_in, is_vs_place, may_place_small, goes_to_lfh, cannot_be_served, serve, has_no_range, has_no_vs_range, fits_none}
-use Rattle.heap_model.specs.Agreement.{is_locked, is_locked_at, is_exclusive_at, moves_exclusive}
+use Rattle.heap_model.specs.Search.{request_of, spans_of}
+use Rattle.heap_model.specs.Legal.{may_touch, is_picked_in, is_vs_place, may_place_small, goes_to_lfh, cannot_be_served, serve, has_no_vs_range, fits_none}
+use Rattle.heap_model.specs.Agreement.{is_locked, is_exclusive_at, moves_exclusive}
 use Rattle.heap_soundness.specs.Sound.{IsOneOf}
 use Rattle.heap_soundness.specs.Invariant.{Keeps}
 use Rattle.heap_soundness.proofs.Lists.{find_some, found_in, found_passes, any_in}
@@ -28,7 +26,6 @@ use Rattle.heap_soundness.proofs.Addresses.{one_address, exclusive_in_all}
 use Rattle.heap_soundness.proofs.Whole.{all_disjoint, all_addresses}
 use Rattle.search_laws.proofs.Blocks.{some_size, bucket_fits}
 use Rattle.search_laws.proofs.Placing.{picks_it}
-use Rattle.call_laws.specs.Within.{by_caller, IsReached, IsWithin, LeadsTo}
 use Rattle.call_laws.specs.Blocks.{IsOpenTo}
 use Rattle.call_laws.specs.Alone.{OpenIsLocked, HandIsExclusive, AllocationHoldsOld, ReallocationHoldsOld, PlacingPicked, FallingIntoGap, RefusingSearched}
 use Rattle.call_laws.proofs.Within.{leads, keeps, one_in, one_behind, among_all, among_hands}
@@ -94,7 +91,7 @@ placing_picked s m c call b i x w search low high there picked read clear =
     let granules = block_size b / 16 in
     let f = (m.now.calls c).search in
     let any : list_any (is_picked_in b f start granules) (spans_of m.state.back.area b (s.slot c)) ≡ true =
-        any_in (is_picked_in b f start granules) (spans_of m.state.back.area b (s.slot c)) x there (picks_it b f x i (some_size b low high) picked read) in
+    any_in (is_picked_in b f start granules) (spans_of m.state.back.area b (s.slot c)) x there (picks_it b f x i (some_size b low high) picked read) in
     leads s m c call (acts.Place start granules layers.Lfh) _ w refl
     (and_from ((caller_view m c).entered && not (starts_at m.state.lfh start)) _
     (and_from (caller_view m c).entered (not (starts_at m.state.lfh start)) w.entered (ap not clear))
@@ -120,11 +117,11 @@ falling_into_gap s m c call n b r w vs back no_span asked_is bucket served fits 
     (ap (λ (o : Option ℕ). not (for_some o (λ d. goes_to_lfh m.state.vs d && not ((caller_view m c).back && (m.now.calls c).no_span && cannot_be_served s m.state.back.area c (caller_view m c) q d)))) bucket
     ∙ not_served (goes_to_lfh m.state.vs b) (caller_view m c).back (m.now.calls c).no_span (cannot_be_served s m.state.back.area c (caller_view m c) q b) back no_span served)))
     (ap (λ (o : Option ℕ). record m.state {
-    vs = record {
-      places = record { start = 16 * r.first; granules = r.count; layer = layers.Vs; status = InHand c } ∷ m.state.vs.places;
-      active = m.state.vs.active;
-      served = serve o m.state.vs.served;
-    };
+      vs = record {
+        places = record { start = 16 * r.first; granules = r.count; layer = layers.Vs; status = InHand c } ∷ m.state.vs.places;
+        active = m.state.vs.active;
+        served = serve o m.state.vs.served;
+      };
     }) (ap (option_and_then bucket_of) is ∙ bucket))
     refl refl
 
@@ -133,8 +130,8 @@ refusing_searched s m c call n b w vs back asked_is bucket served no_gap no_span
     let small = le-leb n 16368 (bucket_fits n b bucket).0 in
     let q = request_of s m c in
     let none : has_no_vs_range s m.state.back.area (gaps m.state) (caller_view m c) n ≡ true =
-        and_from ((caller_view m c).vs && (caller_view m c).back && is_none (vs_place (gaps m.state) (units_of n))) (fits_none s m.state.back.area (span_pages_of n))
-        (and_from ((caller_view m c).vs && (caller_view m c).back) (is_none (vs_place (gaps m.state) (units_of n))) (and_from (caller_view m c).vs (caller_view m c).back vs back) (ap is_none no_gap)) (ap is_none no_span) in
+    and_from ((caller_view m c).vs && (caller_view m c).back && is_none (vs_place (gaps m.state) (units_of n))) (fits_none s m.state.back.area (span_pages_of n))
+    (and_from ((caller_view m c).vs && (caller_view m c).back) (is_none (vs_place (gaps m.state) (units_of n))) (and_from (caller_view m c).vs (caller_view m c).back vs back) (ap is_none no_gap)) (ap is_none no_span) in
     let last : (not (goes_to_lfh m.state.vs b) || cannot_be_served s m.state.back.area c (caller_view m c) q b) ≡ true = or_right (not (goes_to_lfh m.state.vs b)) (cannot_be_served s m.state.back.area c (caller_view m c) q b) served in
     refuses s m c call n w asked_is
     (rw small (and_from (has_no_vs_range s m.state.back.area (gaps m.state) (caller_view m c) n) _ none

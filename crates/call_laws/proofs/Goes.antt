@@ -1,5 +1,5 @@
 -- No act but a Begin changes which call it is.
-use Rattle.std.proofs.Common.{◌≡◌, ℕ, Bool, true, false, Option, Some, None, refl}
+use Rattle.std.proofs.Common.{◌≡◌, ℕ, false, Option, Some, None, refl}
 use Rattle.std.proofs.lemmas.Bool.{true≢false}
 use Rattle.heap_model.specs.declared.Act.{Act}
 use Rattle.heap_model.specs.declared.Act.TheVariants as acts

@@ -1,7 +1,7 @@
 -- The words of a block that is reallocated.
-use Rattle.std.proofs.Common.{◌≡◌, ℕ, zero, suc, ◌+◌, ◌-◌, ◌*◌, ◌/◌, ◌%◌, ◌<◌, ◌≤◌, ◌==◌, Bool, true, false, ◌&&◌, ◌||◌, not, cond, List, [], ◌∷◌, ◌++◌, map, length, Option, Some, None, refl, sym, ap, subst, ◌∙◌, inl, inr, ◌⊎◌, eqb, leb, arith}
-use Rattle.std.specs.Prelude.{filter, min}
-use Rattle.std.specs.List.{list_all, list_any, find, AllByRecursion}
+use Rattle.std.proofs.Common.{◌≡◌, ℕ, zero, suc, ◌+◌, ◌-◌, ◌*◌, ◌/◌, ◌%◌, ◌<◌, ◌≤◌, ◌==◌, Bool, true, false, ◌&&◌, ◌||◌, cond, List, [], ◌∷◌, ◌++◌, Option, Some, refl, sym, ap, subst, ◌∙◌, inl, inr, eqb, leb, arith}
+use Rattle.std.specs.Prelude.{min}
+use Rattle.std.specs.List.{list_all, list_any, find}
 use Rattle.std.proofs.lemmas.List.{append-nil}
 use Rattle.std.proofs.Math.Bool.{and-false}
 use Rattle.std.proofs.lemmas.Bool.{cases_Bool, and_from, and_parts, eq-eqb, eqb-true, leb-true, false≢true, true≢false, both_ways}
@@ -11,10 +11,10 @@ use Rattle.heap_model.specs.declared.Entry.{Entry}
 use Rattle.heap_model.specs.declared.Layer.{Layer}
 use Rattle.heap_model.specs.declared.Layer.TheVariants as layers
 use Rattle.heap_model.specs.Geometry.{words_of}
-use Rattle.heap_model.specs.State.{Setting, State, Place, Status, Live, InHand, IsValidSetting, address, room, is_layer, is_live_of, has_address, in_hand, hands, hand_at, place_at, places_of, all_places, is_live, is_live_at, change_found}
+use Rattle.heap_model.specs.State.{Setting, State, Place, Status, Live, InHand, address, room, is_layer, is_live_of, has_address, in_hand, hands, hand_at, place_at, places_of, all_places, is_live, is_live_at, change_found}
 use Rattle.heap_model.specs.Stay.{for_some}
 use Rattle.heap_model.specs.CallState.{Configuration, caller_view}
-use Rattle.heap_model.specs.Legal.{may, may_follow, after, may_touch, suits, with_places, with_status, layer_of}
+use Rattle.heap_model.specs.Legal.{may, after, may_touch, suits, with_places, with_status, layer_of}
 use Rattle.heap_model.specs.History.{configuration_after, may_all_follow}
 use Rattle.heap_model.specs.Agreement.{HasHomes}
 use Rattle.heap_model.specs.Shape.{zeros, zeroing_more, copying, moving}
@@ -22,14 +22,13 @@ use Rattle.heap_model.specs.Contents.{is_store_to, is_stored_by_others, puts_bac
 use Rattle.heap_model.proofs.ListLemmas.{for_some_parts}
 use Rattle.heap_soundness.specs.Sound.{IsOneOf, AreApart, AreDisjoint, HasSoundSize, IsAligned}
 use Rattle.heap_soundness.specs.Invariant.{Keeps}
-use Rattle.heap_soundness.specs.Legal.{HaveOneAddress}
 use Rattle.heap_soundness.proofs.Lists.{all_at, found_passes, found_in, find_some, apart_swap}
 use Rattle.heap_soundness.proofs.Enums.{layer_is}
 use Rattle.heap_soundness.proofs.Spans.{in_changed, changed_in}
 use Rattle.heap_soundness.proofs.Addresses.{in_parts, members_apart, one_address, place_among_all, addresses_sound}
 use Rattle.heap_soundness.proofs.Whole.{HasAddress, all_disjoint, all_addresses, of_all}
 use Rattle.call_laws.specs.Within.{by_caller}
-use Rattle.call_laws.proofs.Within.{among_all, among_hands, place_is}
+use Rattle.call_laws.proofs.Within.{among_all, among_hands}
 use Rattle.call_laws.proofs.Told.{out_of_hand}
 use Rattle.call_laws.specs.Words.{is_of_word, word_acts}
 use Rattle.call_laws.proofs.TakenBlocks.{places_changed}
@@ -73,12 +72,12 @@ home : (st : State) (p : Place) → HasHomes st → IsOneOf p (all_places st) �
 home st p h i = elim (in_parts p (st.lfh ++ st.vs.places ++ st.back.places) st.large i) [
   | inr j ↦ subst (λ (l : Layer). IsOneOf p (places_of st l)) (sym (all_at (λ q. q.layer ≡ layers.Large) p st.large h.large j)) j
   | inl j ↦ elim (in_parts p (st.lfh ++ st.vs.places) st.back.places j) [
-      | inr x ↦ subst (λ (l : Layer). IsOneOf p (places_of st l)) (sym (all_at (λ q. q.layer ≡ layers.Back) p st.back.places h.back x)) x
-      | inl x ↦ elim (in_parts p st.lfh st.vs.places x) [
-          | inl y ↦ subst (λ (l : Layer). IsOneOf p (places_of st l)) (sym (all_at (λ q. q.layer ≡ layers.Lfh) p st.lfh h.lfh y)) y
-          | inr y ↦ subst (λ (l : Layer). IsOneOf p (places_of st l)) (sym (all_at (λ q. q.layer ≡ layers.Vs) p st.vs.places h.vs y)) y
-        ]
+    | inr x ↦ subst (λ (l : Layer). IsOneOf p (places_of st l)) (sym (all_at (λ q. q.layer ≡ layers.Back) p st.back.places h.back x)) x
+    | inl x ↦ elim (in_parts p st.lfh st.vs.places x) [
+      | inl y ↦ subst (λ (l : Layer). IsOneOf p (places_of st l)) (sym (all_at (λ q. q.layer ≡ layers.Lfh) p st.lfh h.lfh y)) y
+      | inr y ↦ subst (λ (l : Layer). IsOneOf p (places_of st l)) (sym (all_at (λ q. q.layer ≡ layers.Vs) p st.vs.places h.vs y)) y
     ]
+  ]
 ]
 
 pub hands_among : (st : State) (c : ℕ) (p : Place) → IsOneOf p (hands st c) → IsOneOf p (all_places st)
@@ -178,9 +177,9 @@ module _ (s : Setting) (m : Configuration) (c start granules : ℕ) (l : Layer) 
         let all : AreDisjoint (made ∷ places_of m.state l) = subst AreDisjoint (places_with s m c start granules l) (disjoint_in s m1 k1 c l) in
         apart_swap made p (all_at (AreApart made) p (places_of m.state l) all.0 old)
     | inr e ↦ elim (members_apart (all_places m1.state) p made (all_disjoint s m1 k1) (hands_among m1.state c p (own_hands m.state (m.now.calls c) c (acts.Place start granules l) p refl i)) (among_all m1.state l made there1)) [
-        | inl same ↦ absurd (both_ways (is_layer p.layer l) e (ap (λ (x : Place). is_layer x.layer l) same ∙ own_layer l))
-        | inr a ↦ a
-      ]
+      | inl same ↦ absurd (both_ways (is_layer p.layer l) e (ap (λ (x : Place). is_layer x.layer l) same ∙ own_layer l))
+      | inr a ↦ a
+    ]
   ]
 
 ---- A block that is taken

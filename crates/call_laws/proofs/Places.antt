@@ -1,34 +1,32 @@
 -- The rows of new places, of refusals, and of an address at which nothing lives, for any caller.
-use Rattle.std.proofs.Common.{◌≡◌, ℕ, ◌+◌, ◌-◌, ◌*◌, ◌/◌, ◌%◌, ◌<◌, ◌≤◌, ◌==◌, Bool, true, false, ◌&&◌, ◌||◌, not, List, [], ◌∷◌, ◌++◌, Option, Some, None, refl, sym, ap, subst, ◌∙◌, inl, inr, ◌⊎◌, eqb, ltb, leb, arith}
+use Rattle.std.proofs.Common.{◌≡◌, ℕ, ◌+◌, ◌-◌, ◌*◌, ◌/◌, ◌%◌, ◌<◌, ◌≤◌, Bool, true, false, ◌&&◌, ◌||◌, not, List, ◌∷◌, Option, Some, None, refl, ap, subst, ◌∙◌, inl, inr, eqb, ltb, leb, arith}
 use Rattle.std.specs.Prelude.{option_and_then, is_none}
 use Rattle.std.specs.List.{AllByRecursion, list_any}
-use Rattle.std.proofs.lemmas.Bool.{cases_Bool, and_from, and_parts, eq-eqb, eqb-true, lt-ltb, ltb-true, leb-true, leb-false, le-leb, or_right, false≢true, true≢false, both_ways, not-true}
-use Rattle.heap_model.specs.declared.Act.{Act}
+use Rattle.std.proofs.lemmas.Bool.{cases_Bool, and_from, and_parts, eq-eqb, eqb-true, ltb-true, leb-true, leb-false, false≢true, both_ways}
 use Rattle.heap_model.specs.declared.Act.TheVariants as acts
 use Rattle.heap_model.specs.declared.Call.{Call}
 use Rattle.heap_model.specs.declared.Kind.{Kind}
 use Rattle.heap_model.specs.declared.Kind.TheVariants as kinds
-use Rattle.heap_model.specs.declared.Layer.{Layer}
 use Rattle.heap_model.specs.declared.Layer.TheVariants as layers
-use Rattle.heap_model.specs.Geometry.{Route, Small, Variable, Paged, Huge, route_of, is_small, is_variable, is_paged, is_huge, units_of, span_pages_of, pages_of}
+use Rattle.heap_model.specs.Geometry.{Route, Small, Variable, Paged, Huge, route_of, is_small, is_variable, is_huge, units_of, span_pages_of, pages_of}
 use Rattle.heap_model.specs.Buckets.{bucket_of}
 use Rattle.heap_model.specs.Runs.{Run}
-use Rattle.heap_model.specs.State.{Setting, State, Span, Place, Live, InHand, VsPart, address, has_address, is_live, is_live_at, is_kind, all_places}
-use Rattle.heap_model.specs.Backend.{in_span, back_place}
+use Rattle.heap_model.specs.State.{Setting, State, Span, Place, InHand, address, has_address, is_live, is_live_at, is_kind, all_places}
+use Rattle.heap_model.specs.Backend.{in_span}
 use Rattle.heap_model.specs.Ranges.{gaps, vs_place, large_place, large_start}
 use Rattle.heap_model.specs.Stay.{for_some, is_some_of}
 use Rattle.heap_model.specs.CallState.{Configuration, CallerView, caller_view}
 use Rattle.heap_model.specs.Search.{asked, asked_by, Request, request_of}
-use Rattle.heap_model.specs.Legal.{may, after, has_live, places_in, goes_to_lfh, may_place_small, is_vs_place, serve, has_no_range, has_no_vs_range, fits_none}
-use Rattle.heap_soundness.specs.Sound.{IsOneOf, IsInLarge, IsInVs, IsCommittedSpan}
+use Rattle.heap_model.specs.Legal.{has_live, places_in, goes_to_lfh, may_place_small, is_vs_place, serve, has_no_range, has_no_vs_range, fits_none}
+use Rattle.heap_soundness.specs.Sound.{IsOneOf, IsInLarge, IsCommittedSpan}
 use Rattle.heap_soundness.specs.Invariant.{Keeps}
-use Rattle.heap_soundness.proofs.Lists.{all_at, any_found, none_at}
+use Rattle.heap_soundness.proofs.Lists.{all_at, any_found}
 use Rattle.heap_soundness.proofs.Spans.{above, same_span, in_some}
 use Rattle.heap_soundness.proofs.Whole.{LiesInSpan, HasAddress, in_vs, in_lfh, in_back, all_addresses}
 use Rattle.heap_soundness.proofs.Enums.{kind_is}
 use Rattle.serial_laws.proofs.Allocate.{paged_is}
 use Rattle.serial_laws.proofs.VsAllocate.{sized, has_bucket}
-use Rattle.call_laws.specs.Within.{by_caller, IsReached, IsWithin, LeadsTo}
+use Rattle.call_laws.specs.Within.{IsWithin, LeadsTo}
 use Rattle.call_laws.specs.Blocks.{PlacingLarge, PlacingInGap, RefusingLarge, RefusingBack, RefusingVs, ShowsNone, FindingNone}
 use Rattle.call_laws.proofs.Within.{leads, keeps, among_all}
 
@@ -69,11 +67,11 @@ placing_in_gap s m c call n r w lock asked_is route bucket fits =
     ∙ and_from (eqb (16 * r.first) (16 * r.first)) (eqb r.count r.count) (eq-eqb (16 * r.first) (16 * r.first) refl) (eq-eqb r.count r.count refl)))
     (not_front (bucket_of n) (goes_to_lfh m.state.vs) _ bucket)))
     (ap (λ (o : Option ℕ). record m.state {
-    vs = record {
-      places = record { start = 16 * r.first; granules = r.count; layer = layers.Vs; status = InHand c } ∷ m.state.vs.places;
-      active = m.state.vs.active;
-      served = serve (option_and_then bucket_of o) m.state.vs.served;
-    };
+      vs = record {
+        places = record { start = 16 * r.first; granules = r.count; layer = layers.Vs; status = InHand c } ∷ m.state.vs.places;
+        active = m.state.vs.active;
+        served = serve (option_and_then bucket_of o) m.state.vs.served;
+      };
     }) is)
     refl refl
 
@@ -198,11 +196,12 @@ module _ (s : Setting) (m : Configuration) (k : Keeps s m) where
   in_kind a x i h none =
       let q = and_parts (leb x.first (a / 4096)) (ltb (a / 4096) (x.first + x.pages)) h in
       let u = ltb-true (a / 4096) (x.first + x.pages) q.1 in
-      let z = ends_before x i in
-      (by_kind kinds.Lfh m.state.lfh (in_lfh s m k) (among_all m.state layers.Lfh) (λ e. subst (λ (d : Kind). has_live (places_in m.state d) a ≡ false) e none),
-      by_kind kinds.Vs m.state.vs.places (in_vs s m k) (among_all m.state layers.Vs) (λ e. subst (λ (d : Kind). has_live (places_in m.state d) a ≡ false) e none),
-      by_kind kinds.Back m.state.back.places (in_back s m k) (among_all m.state layers.Back) (λ e. subst (λ (d : Kind). has_live (places_in m.state d) a ≡ false) e none),
-      below_area a (omega (arith, u, z)))
+      let z = ends_before x i in (
+        by_kind kinds.Lfh m.state.lfh (in_lfh s m k) (among_all m.state layers.Lfh) (λ e. subst (λ (d : Kind). has_live (places_in m.state d) a ≡ false) e none),
+        by_kind kinds.Vs m.state.vs.places (in_vs s m k) (among_all m.state layers.Vs) (λ e. subst (λ (d : Kind). has_live (places_in m.state d) a ≡ false) e none),
+        by_kind kinds.Back m.state.back.places (in_back s m k) (among_all m.state layers.Back) (λ e. subst (λ (d : Kind). has_live (places_in m.state d) a ≡ false) e none),
+        below_area a (omega (arith, u, z)),
+      )
     where
       by_kind : (kind : Kind) (ps : List Place) → AllByRecursion (LiesInSpan spans kind) ps → ((p : Place) → IsOneOf p ps → IsOneOf p (all_places m.state)) → (x.kind ≡ kind → has_live ps a ≡ false) → has_live ps a ≡ false
       by_kind kind ps all among same = elim (cases_Bool (is_kind x.kind kind)) [
@@ -211,15 +210,19 @@ module _ (s : Setting) (m : Configuration) (k : Keeps s m) where
       ]
 
   pub shows_none : (a : ℕ) → ShowsNone s m.state a → IsNone a
-  shows_none a (inl h) =
-      (large_address kinds.Lfh m.state.lfh a (in_lfh s m k) (among_all m.state layers.Lfh) h.0,
-      large_address kinds.Vs m.state.vs.places a (in_vs s m k) (among_all m.state layers.Vs) h.0,
-      large_address kinds.Back m.state.back.places a (in_back s m k) (among_all m.state layers.Back) h.0, h.1)
+  shows_none a (inl h) = (
+    large_address kinds.Lfh m.state.lfh a (in_lfh s m k) (among_all m.state layers.Lfh) h.0,
+    large_address kinds.Vs m.state.vs.places a (in_vs s m k) (among_all m.state layers.Vs) h.0,
+    large_address kinds.Back m.state.back.places a (in_back s m k) (among_all m.state layers.Back) h.0,
+    h.1,
+  )
   shows_none a (inr (inl h)) = in_kind a h.0 h.1 h.2 h.3
-  shows_none a (inr (inr h)) =
-      (no_span kinds.Lfh m.state.lfh a (in_lfh s m k) (among_all m.state layers.Lfh) h.1,
-      no_span kinds.Vs m.state.vs.places a (in_vs s m k) (among_all m.state layers.Vs) h.1,
-      no_span kinds.Back m.state.back.places a (in_back s m k) (among_all m.state layers.Back) h.1, below_area a h.0)
+  shows_none a (inr (inr h)) = (
+    no_span kinds.Lfh m.state.lfh a (in_lfh s m k) (among_all m.state layers.Lfh) h.1,
+    no_span kinds.Vs m.state.vs.places a (in_vs s m k) (among_all m.state layers.Vs) h.1,
+    no_span kinds.Back m.state.back.places a (in_back s m k) (among_all m.state layers.Back) h.1,
+    below_area a h.0,
+  )
 
 pub finding_none : FindingNone
 finding_none s m c call a r w shows =

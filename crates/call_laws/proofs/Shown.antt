@@ -1,21 +1,19 @@
 -- The own acts that a shape shows, cut at one of them, and what they leave in the caller's hand.
-use Rattle.std.proofs.Common.{◌≡◌, ℕ, ◌+◌, ◌*◌, ◌==◌, Bool, true, false, ◌&&◌, ◌||◌, not, cond, List, [], ◌∷◌, ◌++◌, map, length, Option, Some, None, refl, sym, ap, subst, ◌∙◌, inl, inr, ◌⊎◌, eqb, arith}
-use Rattle.std.specs.Prelude.{filter}
+use Rattle.std.proofs.Common.{◌≡◌, ℕ, ◌==◌, Bool, true, false, ◌&&◌, ◌||◌, not, cond, List, [], ◌∷◌, ◌++◌, refl, sym, ap, subst, ◌∙◌, inl, inr, eqb}
 use Rattle.std.specs.List.{list_all, list_any}
-use Rattle.std.proofs.lemmas.Bool.{cases_Bool, and_from, and_parts, eq-eqb, eqb-true, eqb-false, false≢true, true≢false, both_ways}
+use Rattle.std.proofs.lemmas.Bool.{cases_Bool, and_parts, eqb-true, eqb-false, false≢true, true≢false}
 use Rattle.heap_model.specs.declared.Act.{Act}
 use Rattle.heap_model.specs.declared.Act.TheVariants as acts
 use Rattle.heap_model.specs.declared.Entry.{Entry}
-use Rattle.heap_model.specs.declared.Layer.{Layer}
 use Rattle.heap_model.specs.declared.Layer.TheVariants as layers
 use Rattle.heap_model.specs.declared.What.TheVariants as whats
-use Rattle.heap_model.specs.State.{Setting, State, Place, InHand, IsValidSetting, in_hand, hands, is_in_hand_of}
+use Rattle.heap_model.specs.State.{Setting, State, Place, IsValidSetting, in_hand, hands}
 use Rattle.heap_model.specs.CallState.{Configuration, CallState}
 use Rattle.heap_model.specs.Legal.{may, may_follow, after, state_after}
 use Rattle.heap_model.specs.History.{configuration_after, may_all_follow}
 use Rattle.heap_model.specs.Agreement.{AgreesFor}
-use Rattle.heap_model.specs.Moments.{Moment, moments, acts_of}
-use Rattle.heap_model.specs.Shape.{is_left_out, shape_of, shown, copying, zeros}
+use Rattle.heap_model.specs.Moments.{moments, acts_of}
+use Rattle.heap_model.specs.Shape.{is_left_out, shape_of, shown}
 use Rattle.heap_model.specs.Contents.{puts_back, up_to_last}
 use Rattle.heap_model.proofs.GateSound.{row_of}
 use Rattle.heap_model.proofs.Others.{act_other}
@@ -26,7 +24,7 @@ use Rattle.heap_soundness.proofs.Addresses.{in_parts}
 use Rattle.call_laws.specs.Within.{by_caller}
 use Rattle.call_laws.specs.Words.{is_of_word, word_acts}
 use Rattle.call_laws.proofs.Within.{one_in, one_behind}
-use Rattle.call_laws.proofs.Words.{mine, IsSplit, split, legal_parts}
+use Rattle.call_laws.proofs.Words.{mine, split, legal_parts}
 
 abbrev pub is_shown : Act → Bool
 is_shown act = not (is_left_out act)
@@ -54,12 +52,12 @@ pub words_shown : (c : ℕ) (es : List Entry) → mine is_of_word c es ≡ word_
 words_shown c [] = refl
 words_shown c (e ∷ es) = elim (cases_Bool (eqb e.caller c)) [
   | inl x ↦ elim (cases_Bool (is_of_word e.act)) [
-      | inl w ↦ let l = word_is_shown e.act w in rw (x, w, l) (rw w (ap (λ (z : List Act). e.act ∷ z) (words_shown c es)))
-      | inr w ↦ elim (cases_Bool (is_left_out e.act)) [
-          | inl l ↦ rw (x, w, l) (words_shown c es)
-          | inr l ↦ rw (x, w, l) (rw w (words_shown c es))
-        ]
+    | inl w ↦ let l = word_is_shown e.act w in rw (x, w, l) (rw w (ap (λ (z : List Act). e.act ∷ z) (words_shown c es)))
+    | inr w ↦ elim (cases_Bool (is_left_out e.act)) [
+      | inl l ↦ rw (x, w, l) (words_shown c es)
+      | inr l ↦ rw (x, w, l) (rw w (words_shown c es))
     ]
+  ]
   | inr x ↦ rw x (words_shown c es)
 ]
 
@@ -154,9 +152,9 @@ pub wider : {A : Type 0} (p : A) (a b d e a' b' d' e' : List A) → (IsOneOf p a
 wider p a b d e a' b' d' e' f g h k i = elim (in_parts p (a ++ b ++ d) e i) [
   | inr j ↦ one_behind p (a' ++ b' ++ d') e' (k j)
   | inl j ↦ one_in p (a' ++ b' ++ d') e' (elim (in_parts p (a ++ b) d j) [
-      | inr x ↦ one_behind p (a' ++ b') d' (h x)
-      | inl x ↦ one_in p (a' ++ b') d' (elim (in_parts p a b x) [ inl y ↦ one_in p a' b' (f y) | inr y ↦ one_behind p a' b' (g y) ])
-    ])
+    | inr x ↦ one_behind p (a' ++ b') d' (h x)
+    | inl x ↦ one_in p (a' ++ b') d' (elim (in_parts p a b x) [ inl y ↦ one_in p a' b' (f y) | inr y ↦ one_behind p a' b' (g y) ])
+  ])
 ]
 
 more : {A : Type 0} (p x : A) (b : Bool) (ps : List A) → IsOneOf p ps → IsOneOf p (cond b (x ∷ ps) ps)
@@ -223,12 +221,12 @@ pub leaves_hands : (c : ℕ) (es : List Entry) → list_all is_of_word (mine is_
 leaves_hands c [] h = refl
 leaves_hands c (e ∷ es) h = elim (cases_Bool (eqb e.caller c)) [
   | inl x ↦ elim (cases_Bool (is_left_out e.act)) [
-      | inl l ↦ let z = left_out_harmless e.act l in rw (x, z) (leaves_hands c es (rw (x, l) at h))
-      | inr l ↦
-          let k : (is_of_word e.act && list_all is_of_word (mine is_shown c es)) ≡ true = rw (x, l) at h in
-          let q = and_parts (is_of_word e.act) (list_all is_of_word (mine is_shown c es)) k in
-          let z = word_harmless e.act q.0 in
-          rw (x, z) (leaves_hands c es q.1)
-    ]
+    | inl l ↦ let z = left_out_harmless e.act l in rw (x, z) (leaves_hands c es (rw (x, l) at h))
+    | inr l ↦
+        let k : (is_of_word e.act && list_all is_of_word (mine is_shown c es)) ≡ true = rw (x, l) at h in
+        let q = and_parts (is_of_word e.act) (list_all is_of_word (mine is_shown c es)) k in
+        let z = word_harmless e.act q.0 in
+        rw (x, z) (leaves_hands c es q.1)
+  ]
   | inr x ↦ rw x (leaves_hands c es (rw x at h))
 ]

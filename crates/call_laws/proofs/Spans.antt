@@ -1,12 +1,11 @@
 -- Entries that go together under a lock: a span with its place, the end of a block with its span.
-use Rattle.std.proofs.Common.{◌≡◌, ℕ, ◌+◌, ◌-◌, ◌*◌, ◌/◌, ◌<◌, ◌≤◌, ◌==◌, Bool, true, false, ◌&&◌, ◌||◌, not, List, [], ◌∷◌, ◌++◌, Option, Some, None, refl, sym, ap, subst, ◌∙◌, inl, inr, ◌⊎◌, eqb, ltb, leb, arith}
+use Rattle.std.proofs.Common.{◌≡◌, ℕ, ◌+◌, ◌*◌, ◌/◌, ◌<◌, Bool, true, false, ◌&&◌, ◌||◌, not, List, ◌∷◌, Option, Some, None, refl, sym, ap, subst, ◌∙◌, inl, inr, eqb, ltb, leb, arith}
 use Rattle.std.specs.Prelude.{is_some, is_none, option_and_then}
-use Rattle.std.specs.List.{find, list_any, list_all}
-use Rattle.std.proofs.lemmas.Bool.{cases_Bool, and_from, and_parts, eq-eqb, eqb-true, lt-ltb, le-leb, leb-true, ltb-true, or_left, or_right, false≢true, true≢false, both_ways}
+use Rattle.std.specs.List.{find}
+use Rattle.std.proofs.lemmas.Bool.{cases_Bool, and_from, and_parts, eq-eqb, eqb-true, lt-ltb, le-leb, leb-true, or_left, or_right}
 use Rattle.heap_model.specs.declared.Act.{Act}
 use Rattle.heap_model.specs.declared.Act.TheVariants as acts
 use Rattle.heap_model.specs.declared.Call.{Call}
-use Rattle.heap_model.specs.declared.Call.TheVariants as calls
 use Rattle.heap_model.specs.declared.Kind.{Kind}
 use Rattle.heap_model.specs.declared.Kind.TheVariants as kinds
 use Rattle.heap_model.specs.declared.Layer.{Layer}
@@ -14,31 +13,26 @@ use Rattle.heap_model.specs.declared.Layer.TheVariants as layers
 use Rattle.heap_model.specs.Geometry.{route_of, is_small, is_variable, is_paged, units_of, span_pages_of, pages_of}
 use Rattle.heap_model.specs.Buckets.{bucket_of}
 use Rattle.heap_model.specs.Runs.{Run}
-use Rattle.heap_model.specs.State.{Setting, State, Area, Span, Place, Live, InHand, address, has_address, is_live, is_live_at, is_hand_at, is_in_hand_of, change_found, remove_found, place_at, hand_at, places_of, all_places, is_layer, is_entered}
-use Rattle.heap_model.specs.Backend.{back_place, free_runs}
-use Rattle.heap_model.specs.Ranges.{gaps, gaps_of, vs_spans, vs_place}
+use Rattle.heap_model.specs.State.{Setting, State, Area, Span, Place, InHand, address, has_address, is_hand_at, is_in_hand_of, remove_found, places_of, all_places, is_entered}
+use Rattle.heap_model.specs.Backend.{back_place}
+use Rattle.heap_model.specs.Ranges.{gaps, vs_place}
 use Rattle.heap_model.specs.Stay.{for_some, is_some_of}
-use Rattle.heap_model.specs.CallState.{Configuration, CallState, CallerView, Nothing, UnspanBy, caller_view}
-use Rattle.heap_model.specs.Search.{asked, asked_by, Request, request_of, span_at, begins_at, sought_by, has_to_move}
-use Rattle.heap_model.specs.Legal.{may, may_follow, after, meets_demand, is_begin, call_after, is_run_of, has_place, lies_in, places_in, may_unspan_of, is_unused, with_places, with_status, layer_of, unspan_of, with_span, goes_to_lfh, is_vs_place, may_place_small, serve, may_touch}
+use Rattle.heap_model.specs.CallState.{Configuration, CallState, UnspanBy, caller_view}
+use Rattle.heap_model.specs.Search.{asked, asked_by, Request, request_of, span_at, begins_at}
+use Rattle.heap_model.specs.Legal.{may, may_follow, after, meets_demand, is_begin, call_after, has_place, lies_in, places_in, may_unspan_of, is_unused, with_places, layer_of, unspan_of, with_span, goes_to_lfh, is_vs_place, may_place_small, serve, may_touch}
 use Rattle.heap_soundness.specs.Sound.{IsOneOf, AreApart, AreDisjoint, IsInBack}
 use Rattle.heap_soundness.specs.Invariant.{Keeps}
 use Rattle.heap_soundness.proofs.Lists.{all_at, found_passes, found_in, find_some, disjoint_front, any_found}
-use Rattle.heap_soundness.proofs.Spans.{same_first, removed_from, changed_in}
-use Rattle.heap_soundness.proofs.Kept.{keeps_after}
+use Rattle.heap_soundness.proofs.Spans.{same_first, removed_from}
 use Rattle.heap_soundness.proofs.Addresses.{one_address}
 use Rattle.heap_soundness.proofs.Whole.{HasAddress, all_disjoint, all_addresses}
-use Rattle.serial_laws.specs.BackCalls.{block_span, one_more_reserved}
 use Rattle.serial_laws.specs.VsCalls.{vs_span_for, vs_block, IsInNewSpan}
 use Rattle.serial_laws.proofs.NewSpan.{lies_in_new_span}
-use Rattle.serial_laws.proofs.Turns.{configuration-append, follow-append}
-use Rattle.call_laws.specs.Within.{by_caller, by_all, IsReached, IsWithin, LeadsTo, LeadAllTo}
-use Rattle.call_laws.specs.Blocks.{IsOpenTo}
-use Rattle.call_laws.specs.Spans.{AllocationPlaces, ReallocationPlaces, back_acts, with_back_block, vs_acts, with_vs_block, PlacingBack, ReservingBack, DroppingBack, PlacingInSpan, ReservingSpan, EndingSpan, Freeing, FreeingBack}
+use Rattle.call_laws.specs.Within.{by_caller, LeadAllTo}
+use Rattle.call_laws.specs.Spans.{AllocationPlaces, ReallocationPlaces, back_acts, with_back_block, vs_acts, with_vs_block, PlacingBack, ReservingBack, DroppingBack, PlacingInSpan, ReservingSpan, EndingSpan}
 use Rattle.call_laws.proofs.Goes.{goes_on}
-use Rattle.call_laws.proofs.Within.{updated_here, leads, keeps, among_all, place_is, hand_is}
-use Rattle.call_laws.proofs.Places.{asks, not_front, same_kind}
-use Rattle.call_laws.proofs.Blocks.{taking, dropping}
+use Rattle.call_laws.proofs.Within.{updated_here, leads, keeps, among_all, hand_is}
+use Rattle.call_laws.proofs.Places.{not_front}
 
 pub allocation_places : AllocationPlaces
 allocation_places s m c n flags call placed = rw (placed, call) refl
@@ -120,7 +114,7 @@ reserving_back s m c call n first w back size lower paged fits low only =
     let reserve = acts.Reserve m.state.back.area.reserved in
     let m0 = after s m (by_caller c reserve) in
     let rest = back_block s m0 c call n first (record { entered = w.entered; call_is = call_behind s m c call reserve refl w.call_is; back = back }) size
-        (and_from (eqb c c) _ (eq-eqb c c refl) only) paged fits low in
+    (and_from (eqb c c) _ (eq-eqb c c refl) only) paged fits low in
     record {
       may =
           and_from (may_follow s m (by_caller c reserve)) _
@@ -175,12 +169,12 @@ vs_in_span s m c call n first r h vs meets asked_is route bucket into =
           (and_from (eqb c c) _ (eq-eqb c c refl) (and_from (lies_in 4096 (vs_span_for first n) (vs_block r n)) true inside refl))
           (vs_place_row s m1 c n (request_of s m1 c) r h.entered vs is1 route bucket into.fits));
       state = ap (λ (o : Option ℕ). record m.state {
-      back = record { area = with_span m.state.back.area (vs_span_for first n); places = m.state.back.places };
-      vs = record {
-        places = record { start = 16 * r.first; granules = r.count; layer = layers.Vs; status = InHand c } ∷ m.state.vs.places;
-        active = m.state.vs.active;
-        served = serve (option_and_then bucket_of o) m.state.vs.served;
-      };
+        back = record { area = with_span m.state.back.area (vs_span_for first n); places = m.state.back.places };
+        vs = record {
+          places = record { start = 16 * r.first; granules = r.count; layer = layers.Vs; status = InHand c } ∷ m.state.vs.places;
+          active = m.state.vs.active;
+          served = serve (option_and_then bucket_of o) m.state.vs.served;
+        };
       }) is1;
       within = record { entered = h.entered; call_is = call_behind s m1 c call place refl call1; demand = refl };
     }
@@ -195,7 +189,7 @@ reserving_span s m c call n first r w vs back asked_is route bucket into lower o
     let reserve = acts.Reserve m.state.back.area.reserved in
     let m0 = after s m (by_caller c reserve) in
     let rest = vs_in_span s m0 c call n first r (record { entered = w.entered; call_is = call_behind s m c call reserve refl w.call_is; back = back }) vs
-        (and_from (eqb c c) _ (eq-eqb c c refl) only) asked_is route bucket (record { none = into.none; place = into.place; reserved = into.reserved; fits = into.fits }) in
+    (and_from (eqb c c) _ (eq-eqb c c refl) only) asked_is route bucket (record { none = into.none; place = into.place; reserved = into.reserved; fits = into.fits }) in
     record {
       may =
           and_from (may_follow s m (by_caller c reserve)) _
@@ -273,15 +267,15 @@ dropping_back s m c call a granules r w back i =
     let inside : ((caller_view m c).entered || (caller_view m c).owns) ≡ true = or_left (caller_view m c).entered (caller_view m c).owns w.entered in
     let there : span_at m.state.back.area (a / 4096) ≡ Some x = ap (span_at m.state.back.area) page ∙ found_span s m k x h.there in
     let none : has_place 4096 (remove_found (is_hand_at c a) m.state.back.places) x ≡ false =
-        none_else (is_hand_at c a) x p m.state.back.places (found_hand s m k c layers.Back p i refl) k.heap.back.disjoint (address_of_place s m k layers.Back) h.begins h.whole in
+    none_else (is_hand_at c a) x p m.state.back.places (found_hand s m k c layers.Back p i refl) k.heap.back.disjoint (address_of_place s m k layers.Back) h.begins h.whole in
     let row : may s (record { state = st; now = m1.now }) c unspan ≡ true =
-        and_from (caller_view m c).back _ back
-        (ap (λ (o : Option Span). for_some o (is_unused st (caller_view (record { state = st; now = m1.now }) c))) there
-        ∙ (ap (λ (d : Kind). may_unspan_of (caller_view (record { state = st; now = m1.now }) c) d && not (has_place 4096 (places_in st d) x)) h.kind
-        ∙ and_from ((caller_view m c).entered || (caller_view m c).owns) (not (has_place 4096 (remove_found (is_hand_at c a) m.state.back.places) x)) inside (ap not none))) in
+    and_from (caller_view m c).back _ back
+    (ap (λ (o : Option Span). for_some o (is_unused st (caller_view (record { state = st; now = m1.now }) c))) there
+    ∙ (ap (λ (d : Kind). may_unspan_of (caller_view (record { state = st; now = m1.now }) c) d && not (has_place 4096 (places_in st d) x)) h.kind
+    ∙ and_from ((caller_view m c).entered || (caller_view m c).owns) (not (has_place 4096 (remove_found (is_hand_at c a) m.state.back.places) x)) inside (ap not none))) in
     let row1 : may s m1 c unspan ≡ true = subst (λ (z : State). may s (record { state = z; now = m1.now }) c unspan ≡ true) (sym state1) row in
     let meets1 : meets_demand m1.state.back.area (by_caller c unspan) m1.now.demand ≡ true =
-        ap (meets_demand m1.state.back.area (by_caller c unspan)) demand1 ∙ and_from (eqb c c) (eqb (a / 4096) (a / 4096)) (eq-eqb c c refl) (eq-eqb (a / 4096) (a / 4096) refl) in
+    ap (meets_demand m1.state.back.area (by_caller c unspan)) demand1 ∙ and_from (eqb c c) (eqb (a / 4096) (a / 4096)) (eq-eqb c c refl) (eq-eqb (a / 4096) (a / 4096) refl) in
     record {
       may =
           two_follow s m c drop unspan

@@ -1,16 +1,16 @@
 -- A block that is taken and dropped at once, by any caller.
-use Rattle.std.proofs.Common.{◌≡◌, ℕ, ◌/◌, ◌==◌, Bool, true, false, ◌&&◌, ◌||◌, not, List, [], ◌∷◌, ◌++◌, Option, Some, None, refl, sym, ap, subst, ◌∙◌, inl, inr, ◌⊎◌, eqb}
+use Rattle.std.proofs.Common.{◌≡◌, ℕ, true, ◌&&◌, List, [], ◌∷◌, ◌++◌, Some, refl, sym, ap, subst, ◌∙◌, inl, inr}
 use Rattle.std.specs.List.{find}
-use Rattle.std.proofs.lemmas.Bool.{cases_Bool, and_from, and_parts, eq-eqb, eqb-true, false≢true, true≢false, both_ways}
+use Rattle.std.proofs.lemmas.Bool.{cases_Bool, and_from, and_parts, eq-eqb, eqb-true}
 use Rattle.heap_model.specs.declared.Act.TheVariants as acts
 use Rattle.heap_model.specs.declared.Call.{Call}
 use Rattle.heap_model.specs.declared.Entry.{Entry}
 use Rattle.heap_model.specs.declared.Layer.{Layer}
 use Rattle.heap_model.specs.declared.Layer.TheVariants as layers
-use Rattle.heap_model.specs.State.{Setting, State, Place, Live, InHand, address, has_address, is_live, is_live_at, is_hand_at, is_in_hand_of, change_found, remove_found, places_of, all_places}
+use Rattle.heap_model.specs.State.{Setting, State, Place, Live, InHand, address, has_address, is_live, is_live_at, is_hand_at, change_found, remove_found, places_of, all_places}
 use Rattle.heap_model.specs.CallState.{Configuration, CallerView, caller_view}
-use Rattle.heap_model.specs.Legal.{may_follow, after, may_touch, with_places, with_status, area_with}
-use Rattle.heap_model.specs.History.{may_all_follow, first_configuration, configuration_of, configuration_after}
+use Rattle.heap_model.specs.Legal.{may_follow, after, may_touch, with_places, with_status}
+use Rattle.heap_model.specs.History.{may_all_follow, first_configuration, configuration_of}
 use Rattle.heap_soundness.specs.Sound.{IsOneOf}
 use Rattle.heap_soundness.specs.Invariant.{Keeps}
 use Rattle.heap_soundness.proofs.Lists.{found_passes, found_in, find_some}
@@ -19,7 +19,7 @@ use Rattle.heap_soundness.proofs.Addresses.{one_address}
 use Rattle.heap_soundness.proofs.Whole.{all_disjoint, all_addresses}
 use Rattle.serial_laws.specs.BackCalls.{area_without}
 use Rattle.serial_laws.proofs.Turns.{configuration-append, follow-append}
-use Rattle.call_laws.specs.Within.{by_caller, IsReached, IsWithin, LeadsTo, LeadAllTo}
+use Rattle.call_laws.specs.Within.{by_caller, IsReached, IsWithin, LeadsTo}
 use Rattle.call_laws.specs.Blocks.{IsOpenTo}
 use Rattle.call_laws.specs.Spans.{Freeing, FreeingBack}
 use Rattle.call_laws.proofs.Within.{keeps, among_all}

@@ -1,29 +1,25 @@
 -- How a call is answered, by the entries of its caller and by what the caller finds.
-use Rattle.std.proofs.Common.{◌≡◌, ℕ, ◌+◌, ◌-◌, ◌*◌, ◌/◌, ◌==◌, Bool, true, false, ◌&&◌, ◌||◌, not, cond, List, [], ◌∷◌, ◌++◌, map, Option, Some, None, refl, sym, ap, subst, ◌∙◌, inl, inr, ◌⊎◌, eqb, leb}
-use Rattle.std.specs.List.{list_all, list_any}
-use Rattle.std.proofs.lemmas.Bool.{cases_Bool, and_from, eq-eqb, false≢true, true≢false}
+use Rattle.std.proofs.Common.{◌≡◌, ℕ, ◌+◌, ◌-◌, ◌*◌, ◌/◌, Bool, true, false, ◌&&◌, cond, List, [], ◌∷◌, ◌++◌, map, Some, refl, sym, ap, subst, ◌∙◌, inl, inr, eqb, leb}
+use Rattle.std.specs.List.{list_any}
+use Rattle.std.proofs.lemmas.Bool.{cases_Bool, eq-eqb, true≢false}
 use Rattle.heap_model.specs.declared.Act.{Act}
 use Rattle.heap_model.specs.declared.Act.TheVariants as acts
-use Rattle.heap_model.specs.declared.Call.{Call}
-use Rattle.heap_model.specs.declared.Entry.{Entry}
 use Rattle.heap_model.specs.declared.Layer.{Layer}
 use Rattle.heap_model.specs.declared.Layer.TheVariants as layers
-use Rattle.heap_model.specs.declared.What.TheVariants as whats
-use Rattle.heap_model.specs.State.{Setting, State, Area, BackPart, VsPart, Span, Place, InHand, is_layer, is_in_hand_of, address, in_hand, places_of}
+use Rattle.heap_model.specs.State.{Setting, State, BackPart, VsPart, Place, InHand, is_layer, is_in_hand_of, in_hand, places_of}
 use Rattle.heap_model.specs.Geometry.{route_of, is_paged, is_huge, units_of, pages_of}
 use Rattle.heap_model.specs.Ranges.{gaps_of, large_runs}
 use Rattle.heap_model.specs.Stay.{run_from, reach_back, lets_stay}
 use Rattle.heap_model.specs.CallState.{Configuration, caller_view}
-use Rattle.heap_model.specs.Legal.{after, is_begin, may_touch}
-use Rattle.heap_model.specs.History.{configuration_after, own}
+use Rattle.heap_model.specs.Legal.{after, may_touch}
+use Rattle.heap_model.specs.History.{configuration_after}
 use Rattle.heap_model.specs.Agreement.{AgreesFor}
 use Rattle.heap_model.specs.Moments.{Moment, moments, acts_of, state_before}
-use Rattle.heap_model.specs.Shape.{Answer, shape_of, HasActs, Finds}
-use Rattle.heap_model.specs.Served.{IsOneCall, IsAnswered}
+use Rattle.heap_model.specs.Shape.{shape_of, HasActs}
+use Rattle.heap_model.specs.Served.{IsOneCall}
 use Rattle.heap_model.proofs.Moments.{moments_acts, told_by_acts}
 use Rattle.heap_soundness.specs.Sound.{IsOneOf}
-use Rattle.call_laws.specs.Within.{by_caller, by_all, IsReached}
-use Rattle.call_laws.specs.Blocks.{IsOpenTo}
+use Rattle.call_laws.specs.Within.{by_caller, by_all}
 use Rattle.call_laws.specs.Told.{OwnActsAnswer, FirstIsBefore, FindingStays}
 use Rattle.call_laws.proofs.Within.{keeps, place_is, in_hand_of}
 

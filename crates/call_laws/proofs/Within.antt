@@ -1,23 +1,20 @@
 -- One more entry of a caller that is within its call.
-use Rattle.std.proofs.Common.{◌≡◌, ℕ, ◌==◌, Bool, true, false, ◌&&◌, ◌||◌, not, List, [], ◌∷◌, ◌++◌, Option, Some, None, refl, sym, ap, subst, ◌∙◌, inl, inr, ◌⊎◌, eqb}
-use Rattle.std.specs.Prelude.{is_some, filter}
-use Rattle.std.specs.List.{find}
-use Rattle.std.proofs.lemmas.Bool.{cases_Bool, and_from, and_parts, eq-eqb, or_right, false≢true}
+use Rattle.std.proofs.Common.{◌≡◌, ℕ, true, false, ◌&&◌, ◌||◌, List, [], ◌∷◌, ◌++◌, Some, refl, sym, ap, subst, ◌∙◌, inl, inr}
+use Rattle.std.specs.Prelude.{is_some}
+use Rattle.std.proofs.lemmas.Bool.{cases_Bool, and_from, eq-eqb, or_right}
 use Rattle.heap_model.specs.declared.Act.{Act}
-use Rattle.heap_model.specs.declared.Act.TheVariants as acts
 use Rattle.heap_model.specs.declared.Call.{Call}
-use Rattle.heap_model.specs.declared.Entry.{Entry}
 use Rattle.heap_model.specs.declared.Layer.{Layer}
 use Rattle.heap_model.specs.declared.Layer.TheVariants as layers
 use Rattle.heap_model.specs.State.{Setting, State, Place, Live, InHand, GateAndLocks, updated, address, has_address, place_at, hand_at, hands, in_hand, all_places, places_of, is_in_hand_of}
-use Rattle.heap_model.specs.CallState.{Configuration, CallState, Demand, Nothing, caller_view}
-use Rattle.heap_model.specs.Legal.{may, may_follow, after, state_after, call_after, demand_after, meets_demand, is_begin}
+use Rattle.heap_model.specs.CallState.{Configuration, CallState, Nothing}
+use Rattle.heap_model.specs.Legal.{may, may_follow, after, call_after, demand_after, meets_demand, is_begin}
 use Rattle.heap_soundness.specs.Sound.{IsOneOf}
 use Rattle.heap_soundness.specs.Invariant.{Keeps}
 use Rattle.heap_soundness.specs.Legal.{HaveOneAddress}
 use Rattle.heap_soundness.proofs.Kept.{keeps_all}
 use Rattle.heap_soundness.proofs.Addresses.{addresses_sound}
-use Rattle.heap_soundness.proofs.Lists.{found_passes, found_in, find_some}
+use Rattle.heap_soundness.proofs.Lists.{find_some}
 use Rattle.call_laws.specs.Within.{by_caller, IsReached, IsWithin, LeadsTo}
 use Rattle.call_laws.proofs.Goes.{goes_on}
 

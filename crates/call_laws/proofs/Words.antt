@@ -1,18 +1,16 @@
 -- Words change by Stores alone; splitting a history at an own Load or Store.
-use Rattle.std.proofs.Common.{◌≡◌, ℕ, zero, suc, ◌+◌, ◌-◌, ◌<◌, ◌==◌, Bool, true, false, ◌&&◌, ◌||◌, not, cond, List, [], ◌∷◌, ◌++◌, length, refl, sym, ap, subst, ◌∙◌, inl, inr, arith, eqb}
-use Rattle.std.specs.Prelude.{filter, map}
+use Rattle.std.proofs.Common.{◌≡◌, ℕ, zero, suc, ◌+◌, ◌-◌, ◌<◌, Bool, true, false, ◌&&◌, ◌||◌, not, cond, List, [], ◌∷◌, ◌++◌, length, refl, sym, ap, subst, ◌∙◌, inl, inr, arith, eqb}
 use Rattle.std.specs.List.{list_any}
-use Rattle.std.proofs.lemmas.Bool.{cases_Bool, and_parts, and_from, eqb-true, eqb-false, ne_eqb, eq-eqb, false≢true, true≢false}
+use Rattle.std.proofs.lemmas.Bool.{cases_Bool, and_parts, and_from, eqb-true, ne_eqb, eq-eqb, true≢false}
 use Rattle.heap_model.specs.declared.Act.{Act}
 use Rattle.heap_model.specs.declared.Act.TheVariants as acts
 use Rattle.heap_model.specs.declared.Entry.{Entry}
 use Rattle.heap_model.specs.declared.What.TheVariants as whats
-use Rattle.heap_model.specs.Backend.{numbers}
 use Rattle.heap_model.specs.State.{Setting}
 use Rattle.heap_model.specs.CallState.{Configuration}
 use Rattle.heap_model.specs.Legal.{may, may_follow, after}
 use Rattle.heap_model.specs.History.{configuration_after, may_all_follow}
-use Rattle.heap_model.specs.Moments.{Moment, moments, acts_of}
+use Rattle.heap_model.specs.Moments.{moments, acts_of}
 use Rattle.heap_model.specs.Shape.{copying, zeros}
 use Rattle.heap_model.specs.Contents.{word_after, last_stored, is_store_to, is_stored_by_others}
 use Rattle.heap_model.proofs.GateSound.{row_of}
@@ -77,9 +75,9 @@ one_less c word e es h k =
     let q = or_parts (not (eqb e.caller c) && is_store_to word e.act) (is_stored_by_others c word es) k in
     elim (cases_Bool (eqb e.caller c)) [
       | inl x ↦ elim (cases_Bool (is_of_word e.act)) [
-          | inl y ↦ let r = or_parts (is_store_to word e.act) (list_any (is_store_to word) (mine is_of_word c es)) (rw (x, y) at h) in (r.0, r.1, q.1)
-          | inr y ↦ (no_word word e.act y, rw (x, y) at h, q.1)
-        ]
+        | inl y ↦ let r = or_parts (is_store_to word e.act) (list_any (is_store_to word) (mine is_of_word c es)) (rw (x, y) at h) in (r.0, r.1, q.1)
+        | inr y ↦ (no_word word e.act y, rw (x, y) at h, q.1)
+      ]
       | inr x ↦ (rw x at q.0, rw x at h, q.1)
     ]
 
@@ -220,10 +218,10 @@ copies_keep s c m es from to values rest i legal own below apart none others_fro
     let x = at_index values i below in
     let w : length x.first ≡ i = x.index in
     let list : mine is_of_word c es ≡ copying from to x.first ++ acts.Load (from + i) x.value ∷ ([] ++ acts.Store (to + i) x.value ∷ (copying (from + i + 1) (to + i + 1) x.later ++ rest)) =
-        sym (mine_is s c m es) ∙ (own ∙ (ap (λ (vs : List ℕ). copying from to vs ++ rest) x.is
-        ∙ (ap (λ (l : List Act). l ++ rest) (copying-append from to x.first (x.value ∷ x.later))
-        ∙ (ap (λ (k : ℕ). (copying from to x.first ++ copying (from + k) (to + k) (x.value ∷ x.later)) ++ rest) w
-        ∙ append_assoc3 (copying from to x.first) (acts.Load (from + i) x.value) (acts.Store (to + i) x.value) (copying (from + i + 1) (to + i + 1) x.later) rest)))) in
+    sym (mine_is s c m es) ∙ (own ∙ (ap (λ (vs : List ℕ). copying from to vs ++ rest) x.is
+    ∙ (ap (λ (l : List Act). l ++ rest) (copying-append from to x.first (x.value ∷ x.later))
+    ∙ (ap (λ (k : ℕ). (copying from to x.first ++ copying (from + k) (to + k) (x.value ∷ x.later)) ++ rest) w
+    ∙ append_assoc3 (copying from to x.first) (acts.Load (from + i) x.value) (acts.Store (to + i) x.value) (copying (from + i + 1) (to + i + 1) x.later) rest)))) in
     let a = split is_of_word c es (copying from to x.first) (acts.Load (from + i) x.value) ([] ++ acts.Store (to + i) x.value ∷ (copying (from + i + 1) (to + i + 1) x.later ++ rest)) list in
     let b = split is_of_word c a.later [] (acts.Store (to + i) x.value) (copying (from + i + 1) (to + i + 1) x.later ++ rest) a.behind in
     let k1 = configuration_after s m a.first in
@@ -237,20 +235,20 @@ copies_keep s c m es from to values rest i legal own below apart none others_fro
     let ot4 = (or_parts (not (eqb b.entry.caller c) && is_store_to (to + i) b.entry.act) (is_stored_by_others c (to + i) b.later) ot3.1).1 in
     -- up to the Load the word is as it was
     let first_misses : list_any (is_store_to (from + i)) (mine is_of_word c a.first) ≡ false =
-        ap (list_any (is_store_to (from + i))) a.before ∙ copy_misses from to x.first (from + i) (λ j l e. apart j (subst (λ (n : ℕ). j < n) w l) e) in
+    ap (list_any (is_store_to (from + i))) a.before ∙ copy_misses from to x.first (from + i) (λ j l e. apart j (subst (λ (n : ℕ). j < n) w l) e) in
     let before : k1.state.words (from + i) ≡ m.state.words (from + i) = stays s c m a.first (from + i) first_misses of.0 in
     let loaded : k1.state.words (from + i) ≡ x.value = load_tells s k1 a.entry (from + i) x.value a.act q.0 in
     -- behind the Store the other one is what was stored
     let k2 = configuration_after s (after s k1 a.entry) b.first in
     let stored : (after s k2 b.entry).state.words (to + i) ≡ x.value =
-        word_step s k2 b.entry (to + i) ∙ (ap (word_after (to + i) (k2.state.words (to + i))) b.act ∙ (let z = eq-eqb (to + i) (to + i) refl in rw z refl)) in
+    word_step s k2 b.entry (to + i) ∙ (ap (word_after (to + i) (k2.state.words (to + i))) b.act ∙ (let z = eq-eqb (to + i) (to + i) refl in rw z refl)) in
     let later_misses : list_any (is_store_to (to + i)) (mine is_of_word c b.later) ≡ false =
-        ap (list_any (is_store_to (to + i))) b.behind
-        ∙ any-append-false (is_store_to (to + i)) (copying (from + i + 1) (to + i + 1) x.later) rest (copy_misses (from + i + 1) (to + i + 1) x.later (to + i) (λ j l e. omega (arith, e))) none in
+    ap (list_any (is_store_to (to + i))) b.behind
+    ∙ any-append-false (is_store_to (to + i)) (copying (from + i + 1) (to + i + 1) x.later) rest (copy_misses (from + i + 1) (to + i + 1) x.later (to + i) (λ j l e. omega (arith, e))) none in
     let end = stays s c (after s k2 b.entry) b.later (to + i) later_misses ot4 in
     let to_end : configuration_after s m es ≡ configuration_after s (after s k2 b.entry) b.later =
-        ap (configuration_after s m) a.is ∙ (configuration-append s m a.first (a.entry ∷ a.later)
-        ∙ (ap (configuration_after s (after s k1 a.entry)) b.is ∙ configuration-append s (after s k1 a.entry) b.first (b.entry ∷ b.later))) in
+    ap (configuration_after s m) a.is ∙ (configuration-append s m a.first (a.entry ∷ a.later)
+    ∙ (ap (configuration_after s (after s k1 a.entry)) b.is ∙ configuration-append s (after s k1 a.entry) b.first (b.entry ∷ b.later))) in
     ap (λ (k : Configuration). k.state.words (to + i)) to_end ∙ (end ∙ (stored ∙ (sym loaded ∙ before)))
 
 ---- What is zeroed
@@ -286,12 +284,12 @@ append_again (x ∷ xs) ys zs = ap (λ (l : List Act). x ∷ l) (append_again xs
 pub zeroes_stay : ZeroesStay
 zeroes_stay s c m es first word count i own below others =
     let a = split is_of_word c es (first ++ zeros true word i) (acts.Store (word + i) 0) (zeros true (word + i + 1) (count - (i + 1)))
-        (sym (mine_is s c m es) ∙ (own ∙ (ap (λ (l : List Act). first ++ l) (zeros_at word count i below) ∙ append_again first (zeros true word i) (acts.Store (word + i) 0 ∷ zeros true (word + i + 1) (count - (i + 1)))))) in
+    (sym (mine_is s c m es) ∙ (own ∙ (ap (λ (l : List Act). first ++ l) (zeros_at word count i below) ∙ append_again first (zeros true word i) (acts.Store (word + i) 0 ∷ zeros true (word + i + 1) (count - (i + 1)))))) in
     let k1 = configuration_after s m a.first in
     let o = others-append c (word + i) a.first (a.entry ∷ a.later) (subst (λ (l : List Entry). is_stored_by_others c (word + i) l ≡ false) a.is others) in
     let o2 = (or_parts (not (eqb a.entry.caller c) && is_store_to (word + i) a.entry.act) (is_stored_by_others c (word + i) a.later) o.1).1 in
     let misses : list_any (is_store_to (word + i)) (mine is_of_word c a.later) ≡ false = ap (list_any (is_store_to (word + i))) a.behind ∙ zeros_miss true (word + i + 1) (count - (i + 1)) (word + i) (omega arith) in
     let stored : (after s k1 a.entry).state.words (word + i) ≡ 0 =
-        word_step s k1 a.entry (word + i) ∙ (ap (word_after (word + i) (k1.state.words (word + i))) a.act ∙ (let z = eq-eqb (word + i) (word + i) refl in rw z refl)) in
+    word_step s k1 a.entry (word + i) ∙ (ap (word_after (word + i) (k1.state.words (word + i))) a.act ∙ (let z = eq-eqb (word + i) (word + i) refl in rw z refl)) in
     ap (λ (k : Configuration). k.state.words (word + i)) (ap (configuration_after s m) a.is ∙ configuration-append s m a.first (a.entry ∷ a.later))
     ∙ (stays s c (after s k1 a.entry) a.later (word + i) misses o2 ∙ stored)

@@ -1,5 +1,5 @@
 -- What c alone decides of its entries, so that it can prepare them; and what an entry of a search, or behind one, needs.
-use Rattle.std.specs.Prelude.{◌≡◌, ℕ, ◌+◌, ◌*◌, ◌/◌, ◌≤◌, ◌||◌, Bool, true, false, List, [], ◌∷◌, Option, Some, None}
+use Rattle.std.specs.Prelude.{◌≡◌, ℕ, ◌*◌, ◌/◌, ◌≤◌, true, false, ◌∷◌, Some, None}
 use Rattle.heap_model.specs.declared.Act.TheVariants as acts
 use Rattle.heap_model.specs.declared.Call.{Call}
 use Rattle.heap_model.specs.declared.Call.TheVariants as calls
@@ -52,11 +52,11 @@ FallingIntoGap = (s : Setting) (m : Configuration) (c : ℕ) (call : Call) (n b 
     asked_by call ≡ Some n → bucket_of n ≡ Some b → cannot_be_served s m.state.back.area c (caller_view m c) (request_of s m c) b ≡ true → vs_place (gaps m.state) (units_of n) ≡ Some r →
     LeadsTo s m c call (acts.Place (16 * r.first) r.count layers.Vs)
     (record m.state {
-    vs = record {
-      places = record { start = 16 * r.first; granules = r.count; layer = layers.Vs; status = InHand c } ∷ m.state.vs.places;
-      active = m.state.vs.active;
-      served = serve (Some b) m.state.vs.served;
-    };
+      vs = record {
+        places = record { start = 16 * r.first; granules = r.count; layer = layers.Vs; status = InHand c } ∷ m.state.vs.places;
+        active = m.state.vs.active;
+        served = serve (Some b) m.state.vs.served;
+      };
     })
 
 -- .. or is refused.

@@ -1,16 +1,13 @@
 -- What each entry on a block needs of the caller that holds the lock of its layer, which for the front end is none, and where it leads.
-use Rattle.std.specs.Prelude.{◌≡◌, ◌⊎◌, ℕ, ◌+◌, ◌*◌, ◌/◌, ◌<◌, ◌≤◌, ◌||◌, Bool, true, false, List, [], ◌∷◌, Option, Some, None}
+use Rattle.std.specs.Prelude.{◌≡◌, ◌⊎◌, ℕ, ◌*◌, ◌/◌, ◌<◌, ◌≤◌, ◌||◌, true, false, ◌∷◌, Some, None}
 use Rattle.std.specs.List.{list_any}
-use Rattle.heap_model.specs.declared.Act.{Act}
 use Rattle.heap_model.specs.declared.Act.TheVariants as acts
 use Rattle.heap_model.specs.declared.Call.{Call}
-use Rattle.heap_model.specs.declared.Kind.TheVariants as kinds
-use Rattle.heap_model.specs.declared.Layer.{Layer}
 use Rattle.heap_model.specs.declared.Layer.TheVariants as layers
-use Rattle.heap_model.specs.Geometry.{page_bytes, route_of, is_small, is_variable, is_paged, is_huge, Small, Variable, Paged, Huge, units_of, span_pages_of, pages_of}
+use Rattle.heap_model.specs.Geometry.{route_of, is_small, is_variable, is_paged, is_huge, units_of, span_pages_of, pages_of}
 use Rattle.heap_model.specs.Buckets.{bucket_of}
 use Rattle.heap_model.specs.Runs.{Run}
-use Rattle.heap_model.specs.State.{Setting, State, Span, Place, Live, InHand, is_layer, address, places_of, is_live, is_live_at, is_hand_at, change_found, remove_found, add_place, updated}
+use Rattle.heap_model.specs.State.{Setting, State, Span, Place, Live, InHand, is_layer, address, places_of, is_live, is_live_at, is_hand_at, change_found, remove_found, updated}
 use Rattle.heap_model.specs.Backend.{in_span, back_place}
 use Rattle.heap_model.specs.Ranges.{gaps, vs_place, large_place, large_start}
 use Rattle.heap_model.specs.Stay.{lets_stay, resized, for_some}
@@ -87,11 +84,11 @@ PlacingInGap = (s : Setting) (m : Configuration) (c : ℕ) (call : Call) (n : �
     vs_place (gaps m.state) (units_of n) ≡ Some r →
     LeadsTo s m c call (acts.Place (16 * r.first) r.count layers.Vs)
     (record m.state {
-    vs = record {
-      places = record { start = 16 * r.first; granules = r.count; layer = layers.Vs; status = InHand c } ∷ m.state.vs.places;
-      active = m.state.vs.active;
-      served = serve (bucket_of n) m.state.vs.served;
-    };
+      vs = record {
+        places = record { start = 16 * r.first; granules = r.count; layer = layers.Vs; status = InHand c } ∷ m.state.vs.places;
+        active = m.state.vs.active;
+        served = serve (bucket_of n) m.state.vs.served;
+      };
     })
 
 ---- Refusals

@@ -1,5 +1,5 @@
 -- Spans that are made for a place or go with it, and the entries that go together under the lock of a layer.
-use Rattle.std.specs.Prelude.{◌≡◌, ℕ, ◌+◌, ◌*◌, ◌/◌, ◌<◌, ◌||◌, Bool, true, false, not, nat_lt, List, [], ◌∷◌, Option, Some, None}
+use Rattle.std.specs.Prelude.{◌≡◌, ℕ, ◌*◌, ◌/◌, ◌<◌, ◌||◌, true, false, nat_lt, List, [], ◌∷◌, Some}
 use Rattle.std.specs.List.{list_all}
 use Rattle.heap_model.specs.declared.Act.{Act}
 use Rattle.heap_model.specs.declared.Act.TheVariants as acts
@@ -7,14 +7,13 @@ use Rattle.heap_model.specs.declared.Call.{Call}
 use Rattle.heap_model.specs.declared.Call.TheVariants as calls
 use Rattle.heap_model.specs.declared.Flags.{Flags}
 use Rattle.heap_model.specs.declared.Kind.TheVariants as kinds
-use Rattle.heap_model.specs.declared.Layer.{Layer}
 use Rattle.heap_model.specs.declared.Layer.TheVariants as layers
 use Rattle.heap_model.specs.Geometry.{page_bytes, route_of, is_small, is_variable, is_paged, span_pages_of, pages_of}
 use Rattle.heap_model.specs.Buckets.{bucket_of}
 use Rattle.heap_model.specs.Runs.{Run}
 use Rattle.heap_model.specs.State.{Setting, State, Area, Span, Place, Live, InHand, is_layer, address, place_at, is_live_at, is_hand_at, remove_found}
 use Rattle.heap_model.specs.Backend.{free_runs, back_place}
-use Rattle.heap_model.specs.Stay.{lets_stay, for_some}
+use Rattle.heap_model.specs.Stay.{for_some}
 use Rattle.heap_model.specs.CallState.{Configuration, caller_view}
 use Rattle.heap_model.specs.Search.{asked_by, request_of, has_to_move}
 use Rattle.heap_model.specs.Legal.{after, is_run_of, has_place, goes_to_lfh, serve, with_span, with_places}

@@ -1,12 +1,12 @@
 -- How a call is answered, by the entries of its caller and by what the caller finds.
-use Rattle.std.specs.Prelude.{◌≡◌, ℕ, Bool, true, false, not, List, [], ◌∷◌, ◌++◌, map, Some}
+use Rattle.std.specs.Prelude.{◌≡◌, ℕ, Bool, true, false, not, List, ◌∷◌, ◌++◌, Some}
 use Rattle.std.specs.List.{list_all, list_any}
 use Rattle.heap_model.specs.declared.Act.{Act}
 use Rattle.heap_model.specs.declared.Act.TheVariants as acts
 use Rattle.heap_model.specs.declared.Call.{Call}
 use Rattle.heap_model.specs.declared.Entry.{Entry}
 use Rattle.heap_model.specs.declared.Layer.TheVariants as layers
-use Rattle.heap_model.specs.State.{Setting, State, Place, InHand, is_layer, address}
+use Rattle.heap_model.specs.State.{Setting, Place, InHand, is_layer, address}
 use Rattle.heap_model.specs.CallState.{Configuration}
 use Rattle.heap_model.specs.Legal.{is_begin}
 use Rattle.heap_model.specs.History.{configuration_after, own}

@@ -1,10 +1,9 @@
 -- How words of blocks change, and what a copy keeps of them, whatever entries of other callers stand between.
-use Rattle.std.specs.Prelude.{◌≡◌, ℕ, ◌+◌, ◌<◌, Bool, true, false, List, [], ◌∷◌, ◌++◌, map, filter, length}
+use Rattle.std.specs.Prelude.{◌≡◌, ℕ, ◌+◌, ◌<◌, Bool, true, false, List, ◌++◌, filter, length}
 use Rattle.std.specs.List.{list_any}
 use Rattle.heap_model.specs.declared.Act.{Act}
 use Rattle.heap_model.specs.declared.Act.TheVariants as acts
 use Rattle.heap_model.specs.declared.Entry.{Entry}
-use Rattle.heap_model.specs.Backend.{numbers}
 use Rattle.heap_model.specs.State.{Setting}
 use Rattle.heap_model.specs.CallState.{Configuration}
 use Rattle.heap_model.specs.History.{configuration_after, may_all_follow}
