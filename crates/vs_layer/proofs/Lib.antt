@@ -24,3 +24,4 @@ pub mod Reach
 pub mod Resized
 pub mod DropBlock
 pub mod Standing
+pub mod ByPlace
