@@ -25,3 +25,4 @@ pub mod Resized
 pub mod DropBlock
 pub mod Standing
 pub mod ByPlace
+pub mod Told

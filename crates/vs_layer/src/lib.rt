@@ -12,6 +12,7 @@
 
 mod counting;
 mod dropping;
+pub mod laws;
 mod placing;
 mod resizing;
 #[cfg(test)]
