@@ -22,3 +22,4 @@ pub mod Changed
 pub mod Standing
 pub mod Sounds
 pub mod Tail
+pub mod Told

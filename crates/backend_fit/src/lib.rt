@@ -11,6 +11,8 @@
 //! condition of `resize` that the unused bytes are fewer than those of a page.
 #![tactic(auto)]
 
+pub mod laws;
+
 ghost use Rattle.std.specs.Prelude.{◌≡◌, ℕ, ◌+◌, ◌*◌, ◌<◌, ◌≤◌, Option, option_map, None, Some, IfSome, IfNone, IfOk, IsSome, is_some, nat_le, count_by, true, false, length, [], if◌then◌else◌};
 ghost use Rattle.std.specs.Bool.{OnTrue, OnFalse};
 ghost use Rattle.std.specs.List.{find};

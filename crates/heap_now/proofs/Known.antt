@@ -36,7 +36,7 @@ use Rattle.vs_layer.specs.Kept.{VsKept, places_of, part_of, gaps_in, block_at, p
 use Rattle.heap_now.specs.VsBlocks.{AreOneHeap}
 use Rattle.heap_now.specs.Layers.{AreLayers}
 use Rattle.heap_now.specs.Standing.{LoneHeap, setting_of, IsReached, front_of, Stands}
-use Rattle.heap_now.proofs.ByPlace.{gaps_sorted, count_sorted, IsVsPlace, one_address}
+use Rattle.vs_layer.proofs.ByPlace.{gaps_sorted, count_sorted, IsVsPlace, one_address}
 use Rattle.backend_fit.proofs.NextSegment.{AreBelow}
 use Rattle.backend_fit.proofs.Goes.{spans_below}
 

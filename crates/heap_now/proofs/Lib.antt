@@ -1,4 +1,3 @@
-pub mod ByPlace
 pub mod OfKind
 pub mod BlockAt
 pub mod Known

@@ -38,7 +38,7 @@ use Rattle.lfh_claims.specs.Kept.{spans_for}
 use Rattle.layout_decode.specs.Shows.{Shows, ShowsFront, IsHintOf, run_of_span, unused_in}
 use Rattle.backend_fit.specs.Kept.{pages_in, is_block_run, block_runs, is_block_at}
 use Rattle.heap_now.specs.Standing.{LoneHeap, setting_of, front_of, IsFilledRun, Stands}
-use Rattle.heap_now.proofs.ByPlace.{gaps_sorted, one_start, one_end}
+use Rattle.vs_layer.proofs.ByPlace.{gaps_sorted, one_start, one_end}
 use Rattle.backend_fit.proofs.OfKind.{filter_rising}
 use Rattle.backend_fit.proofs.Rising.{is_at}
 use Rattle.heap_now.proofs.Known.{vs_known, vs_by_start}

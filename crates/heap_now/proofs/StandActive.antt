@@ -34,7 +34,7 @@ use Rattle.lfh_claims.specs.Kept.{LfhKept}
 use Rattle.lfh_claims.specs.Scan.{search_key}
 use Rattle.heap_now.specs.Layers.{Layers, Searches, AllocatesBySearch, Activates}
 use Rattle.heap_now.specs.Standing.{LoneHeap, layers_of, with_layers, setting_of, front_of, Stands, Serves}
-use Rattle.heap_now.proofs.ByPlace.{count_sorted}
+use Rattle.vs_layer.proofs.ByPlace.{count_sorted}
 use Rattle.heap_now.proofs.Known.{keeps}
 use Rattle.heap_now.proofs.StandSmall.{as_small, opened, IsOpened, SearchLaws}
 use Rattle.heap_now.proofs.StandSearch.{taken_serves}

@@ -37,7 +37,7 @@ use Rattle.backend_fit.specs.Kept.{is_block_run, block_runs}
 use Rattle.heap_now.specs.VsBlocks.{vs_run, HasSpanFor, AllocatesVs}
 use Rattle.heap_now.specs.Layers.{Layers, HasFallen}
 use Rattle.heap_now.specs.Standing.{LoneHeap, with_layers, setting_of, Stands, Serves}
-use Rattle.heap_now.proofs.ByPlace.{gaps_sorted}
+use Rattle.vs_layer.proofs.ByPlace.{gaps_sorted}
 use Rattle.backend_fit.proofs.OfKind.{run_other}
 use Rattle.backend_fit.proofs.Goes.{same_segment}
 use Rattle.heap_now.proofs.Known.{keeps, gaps_same, same_range}

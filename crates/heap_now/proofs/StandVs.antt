@@ -29,7 +29,7 @@ use Rattle.vs_layer.specs.Effects.{HasPlaced}
 use Rattle.backend_fit.specs.Kept.{is_block_run}
 use Rattle.heap_now.specs.VsBlocks.{vs_run, HasSpanFor, AllocatesVs}
 use Rattle.heap_now.specs.Standing.{LoneHeap, setting_of, Stands, Serves}
-use Rattle.heap_now.proofs.ByPlace.{gaps_sorted}
+use Rattle.vs_layer.proofs.ByPlace.{gaps_sorted}
 use Rattle.backend_fit.proofs.OfKind.{run_other}
 use Rattle.backend_fit.proofs.Goes.{Goes, Into, Next, goes, same_segment, next_one, goes_next}
 use Rattle.heap_now.proofs.Known.{IsForVs, keeps, gaps_same, for_vs, same_range, all_below}

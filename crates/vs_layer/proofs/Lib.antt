@@ -24,3 +24,5 @@ pub mod Reach
 pub mod Resized
 pub mod DropBlock
 pub mod Standing
+pub mod ByPlace
+pub mod Told

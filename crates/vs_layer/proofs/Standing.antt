@@ -31,7 +31,7 @@ none_from a g (Some h ∷ hs) l = elim (cases_Bool h.busy) [
   | inr e ↦ rw e (none_from a (suc g) hs (omega arith))
 ]
 
-one_from : (a g : ℕ) (hs : List (Option Head)) → OnlyOne (has_address a) (places_from g hs)
+pub one_from : (a g : ℕ) (hs : List (Option Head)) → OnlyOne (has_address a) (places_from g hs)
 one_from a g [] = tt
 one_from a g (None ∷ hs) = one_from a (suc g) hs
 one_from a g (Some h ∷ hs) = elim (cases_Bool h.busy) [

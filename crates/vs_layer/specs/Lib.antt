@@ -4,3 +4,4 @@ pub mod Sound
 pub mod Counted
 pub mod Steps
 pub mod Standing
+pub mod Laws

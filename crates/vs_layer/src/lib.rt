@@ -13,6 +13,7 @@
 mod counting;
 mod dropping;
 mod index;
+pub mod laws;
 mod placing;
 mod resizing;
 #[cfg(test)]
