@@ -34,7 +34,7 @@ changed : (s z : List Slot) (root reserved j : ℕ) (t : Tree) (x : GapTree) →
 changed s z root reserved j t x tree e few =
     subst (λ (y : GapTree). DifferInAtMost (3 * root_height y + 4) y (seen_as z j reserved)) e
     (differ (3 * height t + 1) (3 * root_height (seen_as s root reserved) + 4) s z root reserved j reserved few
-      (let own = height_seen s root reserved t tree in omega (arith, own)))
+    (let own = height_seen s root reserved t tree in omega (arith, own)))
 
 -- what the fields are after a call: w are the slots, and h the set of the gaps
 pub record BecomesFrom (x : GapTree) (reserved : ℕ) (w : List Slot) (root free spare : ℕ) (h : Gaps) : Type 0 where

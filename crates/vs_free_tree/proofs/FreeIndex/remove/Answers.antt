@@ -10,7 +10,7 @@ take_out-requires c =
 pub returns-in_default-clause-found : goal.returns-in_default-clause-found
 returns-in_default-clause-found c =
     sym (absent_gap c.self.inside c.args.self.now c.self.invariant c.self.view_is (c.args.units, c.args.at) c.deref_mut.result.now c.take_out.new.nodes c.deref_mut.ensures.value
-      c.in_default.ensures)
+    c.in_default.ensures)
 
 pub returns-in_default-clause-gaps : goal.returns-in_default-clause-gaps
 returns-in_default-clause-gaps c =
@@ -25,19 +25,19 @@ index_mut-requires c =
 pub invariant_of-self-2 : goal.invariant_of-self-2
 invariant_of-self-2 c =
     (taken_out c.self.inside c.args.self.now c.self.invariant c.self.view_is (c.args.units, c.args.at) c.deref_mut.result.now c.take_out.new.nodes c.deref_mut.ensures.value
-      c.in-Some.taken c.in-Some.ensures c.free.result c.free.ensures).keeps
+    c.in-Some.taken c.in-Some.ensures c.free.result c.free.ensures).keeps
 
 pub returns-clause-found : goal.returns-clause-found
 returns-clause-found c =
     sym (held_gap c.self.inside c.args.self.now c.self.invariant c.self.view_is (c.args.units, c.args.at) c.deref_mut.result.now c.take_out.new.nodes c.deref_mut.ensures.value
-      c.in-Some.taken c.in-Some.ensures)
+    c.in-Some.taken c.in-Some.ensures)
 
 pub returns-clause-gaps : goal.returns-clause-gaps
 returns-clause-gaps c =
     (taken_out c.self.inside c.args.self.now c.self.invariant c.self.view_is (c.args.units, c.args.at) c.deref_mut.result.now c.take_out.new.nodes c.deref_mut.ensures.value
-      c.in-Some.taken c.in-Some.ensures c.free.result c.free.ensures).gaps
+    c.in-Some.taken c.in-Some.ensures c.free.result c.free.ensures).gaps
 
 pub returns-clause-changed : goal.returns-clause-changed
 returns-clause-changed c =
     (taken_out c.self.inside c.args.self.now c.self.invariant c.self.view_is (c.args.units, c.args.at) c.deref_mut.result.now c.take_out.new.nodes c.deref_mut.ensures.value
-      c.in-Some.taken c.in-Some.ensures c.free.result c.free.ensures).changes
+    c.in-Some.taken c.in-Some.ensures c.free.result c.free.ensures).changes
