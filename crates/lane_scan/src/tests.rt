@@ -26,10 +26,10 @@ fn finds_the_subsegments_of_a_bucket_and_a_slot(rt: HostRuntime) {
     let words = [
         0,
         descriptor(true, 2, 1, 1),
-        descriptor(false, 1, 1, 1),
+        descriptor(false, 1, 0, 0),
         descriptor(true, 1, 2, 0),
         descriptor(true, 2, 1, 0),
-        descriptor(false, 1, 1, 0),
+        descriptor(false, 1, 0, 0),
         descriptor(true, 1, 1, 0),
     ];
     for (from, found) in [(0, Some(4)), (4, Some(4)), (5, Some(6)), (7, None)] {

@@ -1,5 +1,5 @@
 -- From what the index keeps to what contracts see.
-use Rattle.std.proofs.Common.{◌≡◌, ℕ, ◌+◌, ◌-◌, ◌*◌, ◌<◌, ◌≤◌, true, false, Some, None, List, ◌++◌, length, take, drop, map, get_or, set as set_slot, Option, refl, sym, ap, subst, ◌∙◌, arith, length-set}
+use Rattle.std.proofs.Common.{◌≡◌, ℕ, ◌+◌, ◌-◌, ◌*◌, ◌<◌, ◌≤◌, true, false, Some, None, List, ◌++◌, length, take, drop, map, get_or, set as set_slot, Option, sym, ap, subst, ◌∙◌, arith, length-set}
 use Rattle.std.proofs.Math.Seq.{take-append_seam}
 use Rattle.std.proofs.lemmas.List.{get_or_read}
 use Rattle.std.specs.FinSet as set
@@ -11,7 +11,7 @@ use Rattle.vs_free_tree.specs.declared.tree.Slot.{Slot}
 use Rattle.vs_free_tree.specs.Gaps.{Gaps}
 use Rattle.vs_free_tree.specs.Tree.{Tree, entries, height, Lack}
 use Rattle.vs_free_tree.specs.Index.{GapTree, root_height, DifferInAtMost}
-use Rattle.vs_free_tree.specs.Slots.{slot_at, IsTreeAt, ChangeAtMost, CanInsertInto, Inserts, CanInsert, IsInserted, TakesOut, CanTakeOut, IsTakenOut}
+use Rattle.vs_free_tree.specs.Slots.{IsTreeAt, ChangeAtMost, CanInsertInto, CanInsert, IsInserted, TakesOut, CanTakeOut, IsTakenOut}
 use Rattle.vs_free_tree.specs.Kept.{gaps_under, number_seen, seen, seen_as, IsKept}
 use Rattle.vs_free_tree.proofs.SeenLemmas.{height_seen, differ}
 use Rattle.vs_free_tree.proofs.GapLemmas.{absent_if_lack}

@@ -27,8 +27,8 @@ ghost use Rattle.vs_layer.specs.Kept.{places_of, active_of, part_of};
 ghost use Rattle.vs_layer.specs.Effects.{nothing_kept, IsOfOneHeap, ShowsChunks};
 
 use counting::Counts;
-use index::GapSet;
 use heap_model::{Limits, OutOfMemory};
+use index::GapSet;
 use std::alloc::Global;
 use std::marker::Model;
 use vs_split::Heads;

@@ -1,6 +1,5 @@
 -- The first free node takes the gap.
-use Rattle.std.proofs.Common.{◌≡◌, ℕ}
-use Rattle.vs_free_tree.proofs.ViewLemmas.{BecomesFrom, spare_some, free_within, can_put, put_in}
+use Rattle.vs_free_tree.proofs.ViewLemmas.{spare_some, free_within, can_put, put_in}
 use Rattle.vs_free_tree.proofs.FreeIndex.add.Goals as goal
 
 pub index-requires : goal.index-requires

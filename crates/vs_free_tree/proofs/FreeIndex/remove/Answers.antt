@@ -1,6 +1,6 @@
 -- The node of the gap becomes the first free one, or nothing changes.
-use Rattle.std.proofs.Common.{◌≡◌, ℕ, sym}
-use Rattle.vs_free_tree.proofs.ViewLemmas.{BecomesFrom, can_take, absent_gap, untaken, taken_within, held_gap, taken_out}
+use Rattle.std.proofs.Common.{sym}
+use Rattle.vs_free_tree.proofs.ViewLemmas.{can_take, absent_gap, untaken, taken_within, held_gap, taken_out}
 use Rattle.vs_free_tree.proofs.FreeIndex.remove.Goals as goal
 
 pub take_out-requires : goal.take_out-requires
