@@ -15,6 +15,40 @@ fn finds_the_first_word(rt: HostRuntime) {
     );
 }
 
+/// The descriptor word of a page of a subsegment: kind 3, whether it is the first, pages or the way back to the first.
+fn descriptor(first: bool, pages: u8, bucket: u8, slot: u8) -> u64 {
+    let kind = if first { 11 } else { 3 };
+    kind | u64::from(pages) << 8 | u64::from(bucket) << 24 | u64::from(slot) << 32
+}
+
+#[test]
+fn finds_the_subsegments_of_a_bucket_and_a_slot(rt: HostRuntime) {
+    let words = [
+        0,
+        descriptor(true, 2, 1, 1),
+        descriptor(false, 1, 0, 0),
+        descriptor(true, 1, 2, 0),
+        descriptor(true, 2, 1, 0),
+        descriptor(false, 1, 0, 0),
+        descriptor(true, 1, 1, 0),
+    ];
+    for (from, found) in [(0, Some(4)), (4, Some(4)), (5, Some(6)), (7, None)] {
+        assert_eq!(rt;
+            next_match(&words, 1099494850575, 16777227, from),
+            found,
+            "from {from}"
+        );
+    }
+    for (slot, found) in [(1u64, Some(1)), (2, None)] {
+        let value = 16777227 + (slot << 32);
+        assert_eq!(rt;
+            next_match(&words, 1099494850575, value, 0),
+            found,
+            "slot {slot}"
+        );
+    }
+}
+
 /// One word after another.
 fn plain_match(words: &[u64], mask: u64, value: u64, from: usize) -> Option<usize> {
     for (index, word) in words.iter().enumerate() {

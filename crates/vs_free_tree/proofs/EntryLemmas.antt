@@ -1,9 +1,9 @@
 -- Lists of nodes whose gaps rise.
-use Rattle.std.proofs.Common.{◌≡◌, ◌≢◌, ℕ, Bool, true, false, List, [], ◌∷◌, ◌++◌, arith, refl, sym, ◌∙◌, true≢false}
+use Rattle.std.proofs.Common.{◌≡◌, ◌≢◌, ℕ, Bool, true, false, List, [], ◌∷◌, ◌++◌, arith, refl}
 use Rattle.std.specs.List.{AllByRecursion}
 use Rattle.std.proofs.lemmas.Bool.Decides.{nat_tests}
 use Rattle.vs_free_tree.specs.Gaps.{is_before}
-use Rattle.vs_free_tree.specs.Tree.{Entry, AreBefore, AreBehind, AreRising, Avoid, Lack}
+use Rattle.vs_free_tree.specs.Tree.{Entry, AreBefore, AreBehind, AreRising}
 
 pub before_itself : (g : ℕ × ℕ) → is_before g g ≡ false
 before_itself g = grind (arith, nat_tests)

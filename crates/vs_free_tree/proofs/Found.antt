@@ -1,12 +1,12 @@
 -- What `best` owes at each of its steps.
-use Rattle.std.proofs.Common.{◌≡◌, ◌≢◌, ℕ, ◌^◌, ◌<◌, ◌≤◌, true, List, [], ◌∷◌, ◌++◌, length, Option, Some, None, refl, sym, ap, ◌∙◌, subst, arith, append_assoc}
+use Rattle.std.proofs.Common.{◌≡◌, ◌≢◌, ℕ, ◌<◌, ◌≤◌, true, List, ◌∷◌, ◌++◌, length, Option, Some, None, refl, sym, ap, ◌∙◌, subst, arith, append_assoc}
 use Rattle.std.specs.List.{AllByRecursion}
 use Rattle.std.proofs.lemmas.Bool.Decides.{nat_tests}
 use Rattle.vs_free_tree.specs.declared.tree.Slot.{Slot}
 use Rattle.vs_free_tree.specs.declared.tree.TheConstants.{NONE}
 use Rattle.vs_free_tree.specs.Gaps.{is_before}
-use Rattle.vs_free_tree.specs.Tree.{Entry, Tree, leaf, fork, entries, AreBefore}
-use Rattle.vs_free_tree.specs.Slots.{slot_at, height_at, gap_at, IsTreeAt, IsFirstFit, Finds, CanSearch, IsFound}
+use Rattle.vs_free_tree.specs.Tree.{Entry, leaf, fork, entries, AreBefore}
+use Rattle.vs_free_tree.specs.Slots.{slot_at, height_at, gap_at, Finds, CanSearch, IsFound}
 use Rattle.vs_free_tree.proofs.EntryLemmas.{all_join, all_weaker}
 use Rattle.vs_free_tree.proofs.Sides.{node_within, node_gap, left_tree, right_tree, lower_left_side, lower_right_side, all_before}
 

@@ -1,12 +1,12 @@
 -- What `insert` owes at each of its steps.
-use Rattle.std.proofs.Common.{◌≡◌, ◌≢◌, ℕ, suc, ◌+◌, ◌*◌, ◌^◌, ◌<◌, ◌≤◌, max, true, false, List, [], ◌∷◌, ◌++◌, length, refl, sym, ap, subst, ◌∙◌, arith, length-append, append_assoc, length-set, get_or-set_same, get_or-set_other, set}
+use Rattle.std.proofs.Common.{◌≡◌, ◌≢◌, ℕ, suc, ◌+◌, ◌*◌, ◌^◌, ◌<◌, true, false, List, [], ◌∷◌, ◌++◌, length, refl, sym, ap, subst, ◌∙◌, arith, length-append, append_assoc, length-set, get_or-set_same, get_or-set_other, set}
 use Rattle.std.specs.List.{AllByRecursion}
 use Rattle.vs_free_tree.specs.declared.tree.Slot.{Slot}
 use Rattle.vs_free_tree.specs.declared.tree.TheConstants.{NONE}
 use Rattle.vs_free_tree.specs.Gaps.{is_before}
 use Rattle.vs_free_tree.specs.Tree.{Entry, Tree, leaf, fork, entries, height, AreBefore, AreBehind, Avoid, Lack}
-use Rattle.vs_free_tree.specs.Slots.{slot_at, height_at, gap_at, entry_at, root_of, slot_of, Show, IsTreeAt, IsSameBeside, ChangeAtMost, AreSides, CanJoin, Joins, IsJoined, CanInsertInto, Inserts, CanInsert, IsInserted}
-use Rattle.vs_free_tree.proofs.EntryLemmas.{behind_other, all_split, all_join, all_weaker, all_both, all_put}
+use Rattle.vs_free_tree.specs.Slots.{slot_at, height_at, gap_at, entry_at, IsTreeAt, AreSides, CanJoin, Joins, IsJoined, CanInsertInto, Inserts, CanInsert, IsInserted}
+use Rattle.vs_free_tree.proofs.EntryLemmas.{behind_other, all_split, all_weaker, all_both, all_put}
 use Rattle.vs_free_tree.proofs.SlotLemmas.{shown_heights}
 use Rattle.vs_free_tree.proofs.Sides.{lower_left_side, lower_right_side, IsWithin, grown_left, grown_right, low_height, change_then, node_within, node_gap, left_tree, right_tree, all_before, all_behind, right_apart, left_apart, entry_stays, left_sides, right_sides}
 

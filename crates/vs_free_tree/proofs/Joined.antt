@@ -1,10 +1,10 @@
 -- A node between two sides that are level.
-use Rattle.std.proofs.Common.{◌≡◌, ℕ, suc, ◌+◌, ◌^◌, ◌<◌, ◌≤◌, max, List, [], ◌∷◌, ◌++◌, length, refl, sym, ap, ◌∙◌, arith}
+use Rattle.std.proofs.Common.{◌≡◌, ℕ, ◌+◌, ◌≤◌, List, [], ◌∷◌, refl, sym, ap, ◌∙◌, arith}
 use Rattle.vs_free_tree.specs.declared.tree.Slot.{Slot}
-use Rattle.vs_free_tree.specs.Tree.{Entry, Tree, leaf, fork, entries, height}
-use Rattle.vs_free_tree.specs.Slots.{slot_at, height_at, entry_at, linked, CanLink, AreSides, Joins}
+use Rattle.vs_free_tree.specs.Tree.{Entry, Tree, fork, entries, height}
+use Rattle.vs_free_tree.specs.Slots.{height_at, entry_at, linked, CanLink, AreSides, Joins}
 use Rattle.vs_free_tree.proofs.EntryLemmas.{all_split}
-use Rattle.vs_free_tree.proofs.SlotLemmas.{height_shown, IsAlone, linked_long, linked_other, linked_shows}
+use Rattle.vs_free_tree.proofs.SlotLemmas.{height_shown, linked_long, linked_other, linked_shows}
 use Rattle.vs_free_tree.proofs.LowerLeft.{whole_rising, middle_alone}
 
 module _ (s : List Slot) (k a b : ℕ) (l r : Tree) (sides : AreSides s k a b l r) where

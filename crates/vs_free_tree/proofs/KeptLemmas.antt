@@ -1,16 +1,16 @@
 -- What the index keeps over each call.
-use Rattle.std.proofs.Common.{◌≡◌, ◌≢◌, ℕ, zero, suc, ◌+◌, ◌-◌, ◌*◌, ◌^◌, ◌<◌, ◌≤◌, true, false, inl, inr, List, [], ◌∷◌, ◌++◌, length, set, refl, sym, ap, subst, ◌∙◌, arith, length-append, length-set, get_or-set_same, get_or-set_other}
+use Rattle.std.proofs.Common.{◌≡◌, ◌≢◌, ℕ, ◌+◌, ◌-◌, ◌*◌, ◌<◌, ◌≤◌, true, false, inl, inr, List, [], ◌∷◌, ◌++◌, length, set, refl, sym, ap, subst, ◌∙◌, arith, length-append, length-set, get_or-set_same, get_or-set_other}
 use Rattle.std.specs.List.{AllByRecursion}
 use Rattle.std.specs.FinSet as finset
 use Rattle.std.proofs.lemmas.Bool.{cases_eq}
 use Rattle.vs_free_tree.specs.declared.tree.Slot.{Slot}
 use Rattle.vs_free_tree.specs.declared.tree.TheConstants.{NONE}
 use Rattle.vs_free_tree.specs.declared.removal.Taken.{Taken}
-use Rattle.vs_free_tree.specs.Tree.{Entry, Tree, leaf, fork, entries, height, Avoid, AreRising}
-use Rattle.vs_free_tree.specs.Slots.{slot_at, height_at, gap_at, Show, IsTreeAt, ChangeAtMost, CanInsertInto, Inserts, IsFewTreeAt, TakesOut}
+use Rattle.vs_free_tree.specs.Tree.{Entry, Tree, entries, height, Avoid, AreRising}
+use Rattle.vs_free_tree.specs.Slots.{slot_at, height_at, Show, IsTreeAt, ChangeAtMost, CanInsertInto, Inserts, IsFewTreeAt, TakesOut}
 use Rattle.vs_free_tree.specs.Kept.{gaps_under, AreFree, AreApart, IsKept}
 use Rattle.vs_free_tree.proofs.EntryLemmas.{all_split, all_join, all_weaker, all_both, all_put, all_drop}
-use Rattle.vs_free_tree.proofs.SlotLemmas.{shown_heights, shown_gaps, shown_within, HasItsGap, IsAlone, alone, keep}
+use Rattle.vs_free_tree.proofs.SlotLemmas.{shown_heights, shown_gaps, shown_within, HasItsGap, alone, keep}
 use Rattle.vs_free_tree.proofs.Sides.{change_then}
 use Rattle.vs_free_tree.proofs.GapLemmas.{gaps_of, counted, lack_if_absent, of_put, of_held, of_taken}
 use Rattle.vs_free_tree.proofs.SeenLemmas.{gaps_told}

@@ -1,14 +1,13 @@
 -- What `take_least` owes at each of its steps.
-use Rattle.std.proofs.Common.{◌≡◌, ◌≢◌, ℕ, suc, ◌+◌, ◌*◌, ◌^◌, ◌<◌, ◌≤◌, max, true, List, [], ◌∷◌, ◌++◌, length, refl, sym, ap, subst, ◌∙◌, arith, length-append}
+use Rattle.std.proofs.Common.{◌≡◌, ◌≢◌, ℕ, suc, ◌+◌, ◌*◌, ◌<◌, max, List, ◌∷◌, ◌++◌, length, refl, sym, ap, subst, ◌∙◌, arith, length-append}
 use Rattle.std.specs.List.{AllByRecursion}
 use Rattle.vs_free_tree.specs.declared.tree.Slot.{Slot}
 use Rattle.vs_free_tree.specs.declared.removal.Taken.{Taken}
 use Rattle.vs_free_tree.specs.declared.tree.TheConstants.{NONE}
-use Rattle.vs_free_tree.specs.Gaps.{is_before}
 use Rattle.vs_free_tree.specs.Tree.{Entry, Tree, leaf, fork, entries, height, AreBefore, Avoid}
-use Rattle.vs_free_tree.specs.Slots.{slot_at, height_at, gap_at, entry_at, IsTreeAt, AreSides, CanJoin, IsJoined, Joins, IsFewTreeAt, TakesLeast, CanTakeLeast, IsLeastTaken}
+use Rattle.vs_free_tree.specs.Slots.{slot_at, height_at, entry_at, IsTreeAt, AreSides, CanJoin, IsJoined, Joins, IsFewTreeAt, TakesLeast, CanTakeLeast, IsLeastTaken}
 use Rattle.vs_free_tree.proofs.EntryLemmas.{all_split, all_weaker}
-use Rattle.vs_free_tree.proofs.Sides.{IsWithin, shrunk_left, low_height, change_then, unchanged, node_within, left_tree, right_tree, lower_left_side, all_before, right_apart, entry_stays, left_sides}
+use Rattle.vs_free_tree.proofs.Sides.{IsWithin, shrunk_left, low_height, change_then, unchanged, left_tree, right_tree, lower_left_side, all_before, right_apart, entry_stays, left_sides}
 
 module _ (s : List Slot) (i : ℕ) (L : Tree) (e : Entry) (R : Tree) (few : IsFewTreeAt s i (fork L e R)) where
   tree : IsTreeAt s i (fork L e R)

@@ -1,10 +1,10 @@
 -- A node whose left side is 2 higher than its right one, turned to the right.
-use Rattle.std.proofs.Common.{◌≡◌, ◌≢◌, ℕ, suc, ◌+◌, ◌^◌, ◌<◌, ◌≤◌, max, List, [], ◌∷◌, ◌++◌, length, refl, sym, ap, subst, ◌∙◌, arith, append_assoc}
+use Rattle.std.proofs.Common.{◌≡◌, ◌≢◌, ℕ, ◌+◌, ◌^◌, ◌<◌, ◌≤◌, List, [], ◌∷◌, ◌++◌, length, refl, sym, ap, subst, ◌∙◌, arith, append_assoc}
 use Rattle.std.specs.List.{AllByRecursion}
 use Rattle.vs_free_tree.specs.declared.tree.Slot.{Slot}
-use Rattle.vs_free_tree.specs.Tree.{Entry, Tree, leaf, fork, entries, height, IsBalanced, AreBefore, AreBehind, AreRising, Avoid}
-use Rattle.vs_free_tree.specs.Slots.{slot_at, height_at, gap_at, entry_at, root_of, slot_of, Show, IsTreeAt, linked, IsSameBeside, ChangeAtMost, CanLink, AreSides, Joins, IsLeftHigh, IsLowered}
-use Rattle.vs_free_tree.proofs.EntryLemmas.{all_split, all_join, rising_join, rising_cut}
+use Rattle.vs_free_tree.specs.Tree.{Entry, Tree, fork, entries, height, AreRising, Avoid}
+use Rattle.vs_free_tree.specs.Slots.{slot_at, height_at, gap_at, entry_at, root_of, slot_of, Show, linked, IsSameBeside, CanLink, AreSides, Joins}
+use Rattle.vs_free_tree.proofs.EntryLemmas.{all_split, all_join, rising_join}
 use Rattle.vs_free_tree.proofs.SlotLemmas.{height_shown, HasItsGap, shown_gaps, IsAlone, alone, linked_long, linked_other, linked_keeps, linked_shows}
 
 -- the nodes of two sides and the one between them

@@ -1,9 +1,9 @@
 -- A node whose right side is 2 higher than its left one, turned to the left.
-use Rattle.std.proofs.Common.{◌≡◌, ◌≢◌, ℕ, suc, ◌+◌, ◌^◌, ◌<◌, ◌≤◌, max, List, [], ◌∷◌, ◌++◌, length, refl, sym, ap, subst, ◌∙◌, arith, append_assoc}
+use Rattle.std.proofs.Common.{◌≡◌, ◌≢◌, ℕ, ◌+◌, ◌^◌, ◌<◌, ◌≤◌, List, [], ◌∷◌, ◌++◌, length, refl, sym, ap, subst, ◌∙◌, arith, append_assoc}
 use Rattle.std.specs.List.{AllByRecursion}
 use Rattle.vs_free_tree.specs.declared.tree.Slot.{Slot}
-use Rattle.vs_free_tree.specs.Tree.{Entry, Tree, leaf, fork, entries, height, IsBalanced, AreBefore, AreBehind, AreRising, Avoid}
-use Rattle.vs_free_tree.specs.Slots.{slot_at, height_at, gap_at, entry_at, root_of, slot_of, Show, IsTreeAt, linked, IsSameBeside, ChangeAtMost, CanLink, AreSides, Joins}
+use Rattle.vs_free_tree.specs.Tree.{Entry, Tree, fork, entries, height, AreRising, Avoid}
+use Rattle.vs_free_tree.specs.Slots.{slot_at, height_at, gap_at, entry_at, root_of, slot_of, Show, linked, IsSameBeside, CanLink, AreSides, Joins}
 use Rattle.vs_free_tree.proofs.EntryLemmas.{all_split}
 use Rattle.vs_free_tree.proofs.SlotLemmas.{height_shown, HasItsGap, IsAlone, alone, linked_long, linked_other, linked_keeps, linked_shows}
 use Rattle.vs_free_tree.proofs.LowerLeft.{whole_rising, whole_gaps, middle_alone}

@@ -1,8 +1,8 @@
 -- What `lower_left` owes at each of its steps, for any two sides of which the left is 2 higher.
-use Rattle.std.proofs.Common.{◌≡◌, ℕ, ◌+◌, ◌<◌, ◌≤◌, List, length, sym, ap, subst, ◌∙◌, arith}
+use Rattle.std.proofs.Common.{◌≡◌, ℕ, ◌+◌, ◌<◌, ◌≤◌, List, length, arith}
 use Rattle.vs_free_tree.specs.declared.tree.Slot.{Slot}
-use Rattle.vs_free_tree.specs.Tree.{Entry, Tree, leaf, fork, height}
-use Rattle.vs_free_tree.specs.Slots.{slot_at, height_at, linked, CanLink, AreSides, Joins, IsLeftHigh, IsLowered}
+use Rattle.vs_free_tree.specs.Tree.{Tree, leaf, fork, height}
+use Rattle.vs_free_tree.specs.Slots.{slot_at, height_at, linked, CanLink, AreSides, Joins}
 use Rattle.vs_free_tree.proofs.LowerLeft.{a_within, inner_height, can_lower, can_raise, lowered}
 use Rattle.vs_free_tree.proofs.LowerLeftTwice.{inner_within, can_first, can_second, can_third, lowered_twice}
 

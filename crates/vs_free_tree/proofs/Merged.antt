@@ -1,5 +1,5 @@
 -- What `merge` owes at each of its steps.
-use Rattle.std.proofs.Common.{◌≡◌, ◌≢◌, ℕ, suc, ◌+◌, ◌*◌, ◌^◌, ◌<◌, ◌≤◌, max, true, List, [], ◌∷◌, ◌++◌, length, refl, sym, ap, subst, ◌∙◌, arith, length-append}
+use Rattle.std.proofs.Common.{◌≡◌, ◌≢◌, ℕ, suc, ◌*◌, ◌^◌, ◌<◌, max, true, List, ◌∷◌, ◌++◌, length, refl, sym, ap, subst, ◌∙◌, arith}
 use Rattle.std.specs.List.{AllByRecursion}
 use Rattle.std.proofs.lemmas.List.{append-nil}
 use Rattle.vs_free_tree.specs.declared.tree.Slot.{Slot}
@@ -7,7 +7,7 @@ use Rattle.vs_free_tree.specs.declared.removal.Taken.{Taken}
 use Rattle.vs_free_tree.specs.declared.tree.TheConstants.{NONE}
 use Rattle.vs_free_tree.specs.Gaps.{is_before}
 use Rattle.vs_free_tree.specs.Tree.{Entry, Tree, leaf, fork, entries, height, AreBefore, AreBehind, AreRising, Avoid}
-use Rattle.vs_free_tree.specs.Slots.{slot_at, height_at, gap_at, entry_at, Show, IsTreeAt, AreSides, CanJoin, IsJoined, Joins, IsFewTreeAt, TakesLeast, CanTakeLeast, IsLeastTaken, AreMergeable, Merges, CanMerge, IsMerged}
+use Rattle.vs_free_tree.specs.Slots.{slot_at, gap_at, entry_at, IsTreeAt, AreSides, CanJoin, IsJoined, Joins, IsFewTreeAt, TakesLeast, CanTakeLeast, IsLeastTaken, AreMergeable, Merges, CanMerge, IsMerged}
 use Rattle.vs_free_tree.proofs.EntryLemmas.{before_both, all_split, all_join, all_weaker, all_both, IsCutAt, rising_cut}
 use Rattle.vs_free_tree.proofs.SlotLemmas.{HasItsGap, shown_gaps, shown_within, other_number, IsAlone, alone, keep}
 use Rattle.vs_free_tree.proofs.Sides.{IsWithin, shrunk_right, low_height, change_then, unchanged}

@@ -1,5 +1,5 @@
 -- The slots of an empty index, as `new` makes them one after another.
-use Rattle.std.proofs.Common.{◌≡◌, ◌≢◌, ℕ, zero, suc, ◌+◌, ◌^◌, ◌<◌, ◌≤◌, List, [], ◌∷◌, ◌++◌, map, length, replicate, get_or, Option, None, refl, sym, ap, subst, ◌∙◌, arith, length-append}
+use Rattle.std.proofs.Common.{◌≡◌, ◌≢◌, ℕ, zero, suc, ◌+◌, ◌^◌, ◌<◌, List, [], ◌∷◌, ◌++◌, map, length, replicate, Option, None, refl, sym, ap, subst, ◌∙◌, arith, length-append}
 use Rattle.std.proofs.Math.ListN.{get_or-append}
 use Rattle.std.proofs.Math.Seq.{get_or-append_seam}
 use Rattle.std.specs.List.{AllByRecursion}
@@ -8,7 +8,7 @@ use Rattle.vs_free_tree.specs.declared.Node.{Node}
 use Rattle.vs_free_tree.specs.declared.tree.Slot.{Slot}
 use Rattle.vs_free_tree.specs.declared.tree.TheConstants.{NONE}
 use Rattle.vs_free_tree.specs.Tree.{leaf}
-use Rattle.vs_free_tree.specs.Index.{GapTree, empty_tree}
+use Rattle.vs_free_tree.specs.Index.{empty_tree}
 use Rattle.vs_free_tree.specs.Slots.{slot_at, height_at, IsTreeAt}
 use Rattle.vs_free_tree.specs.Kept.{AreFree, AreApart, seen, seen_as, IsKept, gaps_under}
 use Rattle.vs_free_tree.proofs.EntryLemmas.{all_join, all_weaker}

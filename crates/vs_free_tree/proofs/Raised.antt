@@ -1,7 +1,7 @@
 -- What `lower_right` owes at each of its steps, for any two sides of which the right is 2 higher.
-use Rattle.std.proofs.Common.{◌≡◌, ℕ, ◌+◌, ◌<◌, ◌≤◌, List, length, sym, ap, subst, ◌∙◌, arith}
+use Rattle.std.proofs.Common.{◌≡◌, ℕ, ◌+◌, ◌<◌, ◌≤◌, List, length, arith}
 use Rattle.vs_free_tree.specs.declared.tree.Slot.{Slot}
-use Rattle.vs_free_tree.specs.Tree.{Entry, Tree, leaf, fork, height}
+use Rattle.vs_free_tree.specs.Tree.{Tree, leaf, fork, height}
 use Rattle.vs_free_tree.specs.Slots.{slot_at, height_at, linked, CanLink, AreSides, Joins}
 use Rattle.vs_free_tree.proofs.LowerRight.{b_within, inner_height, can_lower, can_raise, raised}
 use Rattle.vs_free_tree.proofs.LowerRightTwice.{inner_within, can_first, can_second, can_third, raised_twice}

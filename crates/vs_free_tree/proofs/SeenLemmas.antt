@@ -1,18 +1,15 @@
 -- What contracts see of the slots of a tree.
-use Rattle.std.proofs.Common.{◌≡◌, ◌≢◌, ℕ, zero, suc, ◌+◌, ◌*◌, ◌^◌, ◌<◌, ◌≤◌, max, Bool, true, false, eqb, List, [], ◌∷◌, ◌++◌, map, length, get_or, Option, Some, None, refl, sym, ap, subst, ◌∙◌, arith, eq-eqb}
+use Rattle.std.proofs.Common.{◌≡◌, ◌≢◌, ℕ, zero, suc, ◌^◌, ◌<◌, ◌≤◌, max, Bool, true, false, List, length, Option, Some, None, refl, sym, ap, ◌∙◌, arith, eq-eqb}
 use Rattle.std.specs.Prelude.{◌==◌, if◌then◌else◌}
-use Rattle.std.specs.List.{AllByRecursion}
-use Rattle.std.specs.FinSet as set
 use Rattle.std.proofs.Math.ListN.{get_or-map}
 use Rattle.std.proofs.lemmas.Bool.{eqb-true}
 use Rattle.std.proofs.lemmas.List.{length-map}
 use Rattle.vs_free_tree.specs.declared.Node.{Node}
 use Rattle.vs_free_tree.specs.declared.tree.Slot.{Slot}
 use Rattle.vs_free_tree.specs.declared.tree.TheConstants.{NONE}
-use Rattle.vs_free_tree.specs.Gaps.{Gaps}
 use Rattle.vs_free_tree.specs.Tree.{Entry, Tree, leaf, fork, entries, height, Avoid}
-use Rattle.vs_free_tree.specs.Index.{GapTree, node_at, number_of_root, node_of, Answers, IsShownBy, height_of, height_from, root_height, DifferInAtMost}
-use Rattle.vs_free_tree.specs.Slots.{slot_at, height_at, gap_at, entry_at, root_of, slot_of, Show, IsTreeAt, ChangeAtMost}
+use Rattle.vs_free_tree.specs.Index.{node_at, number_of_root, node_of, Answers, IsShownBy, height_of, height_from, root_height, DifferInAtMost}
+use Rattle.vs_free_tree.specs.Slots.{slot_at, height_at, gap_at, entry_at, root_of, Show, IsTreeAt, ChangeAtMost}
 use Rattle.vs_free_tree.specs.Kept.{tree_under, gaps_under, number_seen, seen, seen_as}
 use Rattle.vs_free_tree.proofs.SlotLemmas.{height_shown}
 use Rattle.vs_free_tree.proofs.GapLemmas.{gaps_of, is_search_tree}

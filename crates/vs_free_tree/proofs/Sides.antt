@@ -1,12 +1,12 @@
 -- A node of a tree, one of whose sides was changed.
-use Rattle.std.proofs.Common.{◌≡◌, ◌≢◌, ℕ, zero, suc, ◌+◌, ◌*◌, ◌^◌, ◌<◌, ◌≤◌, max, true, false, List, [], ◌∷◌, ◌++◌, length, refl, sym, ap, subst, ◌∙◌, arith, true≢false, length-append, ◌⊎◌, inl, inr}
+use Rattle.std.proofs.Common.{◌≡◌, ◌≢◌, ℕ, zero, suc, ◌+◌, ◌*◌, ◌^◌, ◌<◌, ◌≤◌, max, true, List, [], ◌∷◌, ◌++◌, length, refl, sym, ap, subst, ◌∙◌, arith, length-append, ◌⊎◌, inl, inr}
 use Rattle.std.specs.List.{AllByRecursion}
 use Rattle.std.proofs.lemmas.Bool.{cases_lt}
 use Rattle.vs_free_tree.specs.declared.tree.Slot.{Slot}
 use Rattle.vs_free_tree.specs.Gaps.{is_before}
-use Rattle.vs_free_tree.specs.Tree.{Entry, Tree, leaf, fork, entries, height, IsBalanced, AreBefore, AreBehind, AreRising, Avoid}
-use Rattle.vs_free_tree.specs.Slots.{slot_at, height_at, gap_at, entry_at, root_of, slot_of, Show, IsTreeAt, IsSameBeside, ChangeAtMost, AreSides}
-use Rattle.vs_free_tree.proofs.EntryLemmas.{before_itself, before_both, all_split, all_join, all_weaker, all_both, rising_cut}
+use Rattle.vs_free_tree.specs.Tree.{Entry, Tree, leaf, fork, entries, height, IsBalanced, AreBefore, AreBehind, Avoid}
+use Rattle.vs_free_tree.specs.Slots.{slot_at, height_at, gap_at, entry_at, root_of, slot_of, IsTreeAt, IsSameBeside, ChangeAtMost, AreSides}
+use Rattle.vs_free_tree.proofs.EntryLemmas.{before_both, all_split, all_weaker, all_both, rising_cut}
 use Rattle.vs_free_tree.proofs.SlotLemmas.{height_shown, HasItsGap, shown_gaps, other_number, IsAlone, alone, keep}
 
 ---- Heights

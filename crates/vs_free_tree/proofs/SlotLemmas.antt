@@ -1,11 +1,11 @@
 -- Trees in slots, and what a write to one slot leaves of them.
-use Rattle.std.proofs.Common.{◌≡◌, ◌≢◌, ℕ, suc, ◌+◌, ◌^◌, ◌<◌, ◌≤◌, max, Bool, true, false, List, [], ◌∷◌, ◌++◌, length, get_or, set, refl, sym, ap, subst, ◌∙◌, arith, true≢false, get_or-set_other, get_or-set_same, length-set}
+use Rattle.std.proofs.Common.{◌≡◌, ◌≢◌, ℕ, suc, ◌^◌, ◌<◌, max, Bool, true, false, List, ◌∷◌, ◌++◌, length, sym, ap, ◌∙◌, arith, true≢false, get_or-set_other, get_or-set_same, length-set}
 use Rattle.std.specs.List.{AllByRecursion}
 use Rattle.std.proofs.lemmas.List.{get_or_past}
 use Rattle.vs_free_tree.specs.declared.tree.Slot.{Slot}
 use Rattle.vs_free_tree.specs.Gaps.{is_before}
-use Rattle.vs_free_tree.specs.Tree.{Entry, Tree, leaf, fork, entries, height, AreBefore, AreBehind, AreRising, Avoid}
-use Rattle.vs_free_tree.specs.Slots.{slot_at, height_at, gap_at, entry_at, root_of, slot_of, Show, linked, IsSameBeside, ChangeAtMost}
+use Rattle.vs_free_tree.specs.Tree.{Entry, Tree, leaf, fork, entries, height, AreRising, Avoid}
+use Rattle.vs_free_tree.specs.Slots.{slot_at, height_at, gap_at, root_of, slot_of, Show, linked}
 use Rattle.vs_free_tree.proofs.EntryLemmas.{before_itself, all_split, all_join, all_weaker, all_both, rising_cut}
 
 pub height_shown : (s : List Slot) (t : Tree) → length s < 2 ^ 32 → Show s t → height_at s (root_of t) ≡ height t

@@ -1,12 +1,12 @@
 -- What `take_out` owes at each of its steps.
-use Rattle.std.proofs.Common.{◌≡◌, ◌≢◌, ℕ, suc, ◌+◌, ◌*◌, ◌^◌, ◌<◌, ◌≤◌, max, Bool, true, false, List, [], ◌∷◌, ◌++◌, length, Option, Some, None, refl, sym, ap, subst, ◌∙◌, arith, true≢false, length-append, append_assoc}
+use Rattle.std.proofs.Common.{◌≡◌, ◌≢◌, ℕ, suc, ◌*◌, ◌<◌, max, true, false, List, ◌∷◌, ◌++◌, length, Some, None, refl, sym, ap, subst, ◌∙◌, arith, true≢false, length-append, append_assoc}
 use Rattle.std.specs.List.{AllByRecursion}
 use Rattle.vs_free_tree.specs.declared.tree.Slot.{Slot}
 use Rattle.vs_free_tree.specs.declared.removal.Taken.{Taken}
 use Rattle.vs_free_tree.specs.declared.tree.TheConstants.{NONE}
 use Rattle.vs_free_tree.specs.Gaps.{is_before}
 use Rattle.vs_free_tree.specs.Tree.{Entry, Tree, leaf, fork, entries, height, AreBefore, AreBehind, Avoid, Lack}
-use Rattle.vs_free_tree.specs.Slots.{slot_at, height_at, gap_at, entry_at, IsTreeAt, AreSides, CanJoin, IsJoined, Joins, IsFewTreeAt, AreMergeable, Merges, CanMerge, IsMerged, TakesOut, TakesOutIfThere, CanTakeOut, IsTakenOut}
+use Rattle.vs_free_tree.specs.Slots.{slot_at, height_at, gap_at, entry_at, IsTreeAt, AreSides, CanJoin, IsJoined, Joins, IsFewTreeAt, AreMergeable, Merges, CanMerge, IsMerged, TakesOut, CanTakeOut, IsTakenOut}
 use Rattle.vs_free_tree.proofs.EntryLemmas.{before_itself, before_along, same_gap, all_split, all_join, all_weaker, all_drop, rising_drop}
 use Rattle.vs_free_tree.proofs.Sides.{IsWithin, shrunk_left, shrunk_right, low_height, change_then, node_within, node_gap, left_tree, right_tree, lower_left_side, lower_right_side, all_before, all_behind, right_apart, left_apart, entry_stays, left_sides, right_sides}
 use Rattle.vs_free_tree.proofs.LeastTaken.{few_left, few_right}

@@ -1,5 +1,5 @@
 -- From what the index keeps to what contracts see.
-use Rattle.std.proofs.Common.{◌≡◌, ℕ, ◌+◌, ◌-◌, ◌*◌, ◌<◌, ◌≤◌, true, false, Some, None, List, ◌++◌, length, take, drop, map, get_or, set as set_slot, Option, refl, sym, ap, subst, ◌∙◌, arith, length-set}
+use Rattle.std.proofs.Common.{◌≡◌, ℕ, ◌+◌, ◌-◌, ◌*◌, ◌<◌, ◌≤◌, true, false, Some, None, List, ◌++◌, length, take, drop, map, get_or, set as set_slot, Option, sym, ap, subst, ◌∙◌, arith, length-set}
 use Rattle.std.proofs.Math.Seq.{take-append_seam}
 use Rattle.std.proofs.lemmas.List.{get_or_read}
 use Rattle.std.specs.FinSet as set
@@ -11,7 +11,7 @@ use Rattle.vs_free_tree.specs.declared.tree.Slot.{Slot}
 use Rattle.vs_free_tree.specs.Gaps.{Gaps}
 use Rattle.vs_free_tree.specs.Tree.{Tree, entries, height, Lack}
 use Rattle.vs_free_tree.specs.Index.{GapTree, root_height, DifferInAtMost}
-use Rattle.vs_free_tree.specs.Slots.{slot_at, IsTreeAt, ChangeAtMost, CanInsertInto, Inserts, CanInsert, IsInserted, TakesOut, CanTakeOut, IsTakenOut}
+use Rattle.vs_free_tree.specs.Slots.{IsTreeAt, ChangeAtMost, CanInsertInto, CanInsert, IsInserted, TakesOut, CanTakeOut, IsTakenOut}
 use Rattle.vs_free_tree.specs.Kept.{gaps_under, number_seen, seen, seen_as, IsKept}
 use Rattle.vs_free_tree.proofs.SeenLemmas.{height_seen, differ}
 use Rattle.vs_free_tree.proofs.GapLemmas.{absent_if_lack}
@@ -34,7 +34,7 @@ changed : (s z : List Slot) (root reserved j : ℕ) (t : Tree) (x : GapTree) →
 changed s z root reserved j t x tree e few =
     subst (λ (y : GapTree). DifferInAtMost (3 * root_height y + 4) y (seen_as z j reserved)) e
     (differ (3 * height t + 1) (3 * root_height (seen_as s root reserved) + 4) s z root reserved j reserved few
-      (let own = height_seen s root reserved t tree in omega (arith, own)))
+    (let own = height_seen s root reserved t tree in omega (arith, own)))
 
 -- what the fields are after a call: w are the slots, and h the set of the gaps
 pub record BecomesFrom (x : GapTree) (reserved : ℕ) (w : List Slot) (root free spare : ℕ) (h : Gaps) : Type 0 where

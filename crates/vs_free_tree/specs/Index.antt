@@ -1,11 +1,11 @@
 -- The index, as contracts see it: its gaps, how many there is room for, how many nodes it has memory for, and its tree as the
 -- answers of `root` and `node` tell it.
-use Rattle.std.specs.Prelude.{◌≡◌, ◌≢◌, ℕ, ◌<◌, ◌≤◌, List, map, length, Option, Some, None, refl, replicate}
+use Rattle.std.specs.Prelude.{◌≡◌, ◌≢◌, ℕ, ◌≤◌, List, map, length, Option, Some, None, refl, replicate}
 use Rattle.std.specs.List.{AllByRecursion, slice_index_or}
 use Rattle.std.specs.FinSet as set
 use Rattle.std.specs.Coded.{Coded, code_by, coded×, coded_ℕ, coded_list, coded_option}
 use Rattle.vs_free_tree.specs.declared.Node.{Node}
-use Rattle.vs_free_tree.specs.Gaps.{gap_cmp, Gaps, GapIndex}
+use Rattle.vs_free_tree.specs.Gaps.{Gaps, GapIndex}
 use Rattle.vs_free_tree.specs.Tree.{Entry, Tree, leaf, fork, entries, height, IsBalanced, IsSearchTree, Avoid}
 
 pub record GapTree : Type 0 where

@@ -1,12 +1,12 @@
 -- What the fields of the index keep to: a tree of the gaps, and a list of the free nodes.
 use Rattle.std.specs.List.{AllByRecursion}
-use Rattle.std.specs.Prelude.{◌≡◌, ◌≢◌, ℕ, zero, suc, ◌+◌, ◌<◌, ◌==◌, ◌^◌, List, [], ◌∷◌, map, length, Option, Some, None, if◌then◌else◌}
+use Rattle.std.specs.Prelude.{◌≡◌, ◌≢◌, ℕ, zero, suc, ◌+◌, ◌<◌, ◌==◌, List, [], ◌∷◌, map, length, Option, Some, None, if◌then◌else◌}
 use Rattle.std.specs.FinSet as set
 use Rattle.vs_free_tree.specs.declared.Node.{Node}
 use Rattle.vs_free_tree.specs.declared.tree.Slot.{Slot}
 use Rattle.vs_free_tree.specs.declared.tree.TheConstants.{NONE}
 use Rattle.vs_free_tree.specs.Gaps.{Gaps}
-use Rattle.vs_free_tree.specs.Tree.{Entry, Tree, leaf, fork, entries, Avoid}
+use Rattle.vs_free_tree.specs.Tree.{Tree, leaf, fork, entries, Avoid}
 use Rattle.vs_free_tree.specs.Index.{GapTree}
 use Rattle.vs_free_tree.specs.Slots.{slot_at, height_at, entry_at, IsTreeAt}
 

@@ -1,10 +1,9 @@
 -- The tree in an array: a slot for each number, and what the steps on it do.
-use Rattle.std.specs.Prelude.{◌≡◌, ◌≢◌, ℕ, suc, ◌+◌, ◌*◌, ◌^◌, ◌<◌, ◌≤◌, max, List, [], ◌∷◌, ◌++◌, length, slice_set, Option, Some, None}
+use Rattle.std.specs.Prelude.{◌≡◌, ◌≢◌, ℕ, suc, ◌+◌, ◌*◌, ◌^◌, ◌<◌, ◌≤◌, max, List, ◌∷◌, ◌++◌, length, slice_set, Option, Some, None}
 use Rattle.std.specs.List.{AllByRecursion, slice_index_or}
 use Rattle.vs_free_tree.specs.declared.tree.Slot.{Slot}
 use Rattle.vs_free_tree.specs.declared.removal.Taken.{Taken}
 use Rattle.vs_free_tree.specs.declared.tree.TheConstants.{NONE}
-use Rattle.vs_free_tree.specs.Gaps.{is_before}
 use Rattle.vs_free_tree.specs.Tree.{Entry, Tree, leaf, fork, entries, height, IsBalanced, AreBefore, AreBehind, AreRising, Avoid, Lack}
 
 abbrev pub slot_at : List Slot → ℕ → Slot

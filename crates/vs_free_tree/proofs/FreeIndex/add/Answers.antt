@@ -1,6 +1,5 @@
 -- The first free node takes the gap.
-use Rattle.std.proofs.Common.{◌≡◌, ℕ}
-use Rattle.vs_free_tree.proofs.ViewLemmas.{BecomesFrom, spare_some, free_within, can_put, put_in}
+use Rattle.vs_free_tree.proofs.ViewLemmas.{spare_some, free_within, can_put, put_in}
 use Rattle.vs_free_tree.proofs.FreeIndex.add.Goals as goal
 
 pub index-requires : goal.index-requires
@@ -17,14 +16,14 @@ insert-self-inside-requires c =
 pub invariant_of-self : goal.invariant_of-self
 invariant_of-self c =
     (put_in c.self.inside c.args.self.now c.self.invariant c.self.view_is (c.args.units, c.args.at) c.requires.room c.requires.absent c.deref_mut.result.now
-      c.insert-self-inside.new.nodes c.insert-self-inside.result c.index.result.now c.deref_mut.ensures.value c.insert-self-inside.ensures c.index.ensures).keeps
+    c.insert-self-inside.new.nodes c.insert-self-inside.result c.index.result.now c.deref_mut.ensures.value c.insert-self-inside.ensures c.index.ensures).keeps
 
 pub returns-clause-gaps : goal.returns-clause-gaps
 returns-clause-gaps c =
     (put_in c.self.inside c.args.self.now c.self.invariant c.self.view_is (c.args.units, c.args.at) c.requires.room c.requires.absent c.deref_mut.result.now
-      c.insert-self-inside.new.nodes c.insert-self-inside.result c.index.result.now c.deref_mut.ensures.value c.insert-self-inside.ensures c.index.ensures).gaps
+    c.insert-self-inside.new.nodes c.insert-self-inside.result c.index.result.now c.deref_mut.ensures.value c.insert-self-inside.ensures c.index.ensures).gaps
 
 pub returns-clause-changed : goal.returns-clause-changed
 returns-clause-changed c =
     (put_in c.self.inside c.args.self.now c.self.invariant c.self.view_is (c.args.units, c.args.at) c.requires.room c.requires.absent c.deref_mut.result.now
-      c.insert-self-inside.new.nodes c.insert-self-inside.result c.index.result.now c.deref_mut.ensures.value c.insert-self-inside.ensures c.index.ensures).changes
+    c.insert-self-inside.new.nodes c.insert-self-inside.result c.index.result.now c.deref_mut.ensures.value c.insert-self-inside.ensures c.index.ensures).changes

@@ -1,5 +1,5 @@
 -- The first node that fits has the best gap.
-use Rattle.std.proofs.Common.{◌≡◌, sym, ap, subst, ◌∙◌}
+use Rattle.std.proofs.Common.{sym, ap, subst, ◌∙◌}
 use Rattle.std.specs.Option.{MatchOption}
 use Rattle.vs_free_tree.specs.Gaps.{Gaps, NoneFits, IsBest}
 use Rattle.vs_free_tree.specs.Index.{GapTree}

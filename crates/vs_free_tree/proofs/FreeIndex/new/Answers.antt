@@ -1,5 +1,5 @@
 -- Each node that is made is free, and there is room for all.
-use Rattle.std.proofs.Common.{◌≡◌, ◌^◌, ◌<◌, ◌≤◌, ◌++◌, ◌∷◌, [], List, sym, ap, subst, ◌∙◌, arith}
+use Rattle.std.proofs.Common.{◌≡◌, ◌++◌, ◌∷◌, [], ap, subst, ◌∙◌, arith}
 use Rattle.std.specs.Vec.{vec_capacity}
 use Rattle.vs_free_tree.specs.declared.tree.Slot.{Slot}
 use Rattle.vs_free_tree.proofs.NewLemmas.{AreNew, new_none, new_more, kept_new, seen_new}

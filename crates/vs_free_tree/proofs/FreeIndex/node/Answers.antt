@@ -1,7 +1,7 @@
 -- The index is its tree.
 use Rattle.std.proofs.Common.{subst}
 use Rattle.std.specs.Vec.{vec_capacity}
-use Rattle.vs_free_tree.specs.Index.{GapTree, IsTreeOfGaps}
+use Rattle.vs_free_tree.specs.Index.{IsTreeOfGaps}
 use Rattle.vs_free_tree.proofs.SeenLemmas.{shown_by}
 use Rattle.vs_free_tree.proofs.FreeIndex.node.Goals as goal
 

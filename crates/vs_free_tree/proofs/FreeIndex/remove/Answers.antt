@@ -1,6 +1,6 @@
 -- The node of the gap becomes the first free one, or nothing changes.
-use Rattle.std.proofs.Common.{◌≡◌, ℕ, sym}
-use Rattle.vs_free_tree.proofs.ViewLemmas.{BecomesFrom, can_take, absent_gap, untaken, taken_within, held_gap, taken_out}
+use Rattle.std.proofs.Common.{sym}
+use Rattle.vs_free_tree.proofs.ViewLemmas.{can_take, absent_gap, untaken, taken_within, held_gap, taken_out}
 use Rattle.vs_free_tree.proofs.FreeIndex.remove.Goals as goal
 
 pub take_out-requires : goal.take_out-requires
@@ -10,7 +10,7 @@ take_out-requires c =
 pub returns-in_default-clause-found : goal.returns-in_default-clause-found
 returns-in_default-clause-found c =
     sym (absent_gap c.self.inside c.args.self.now c.self.invariant c.self.view_is (c.args.units, c.args.at) c.deref_mut.result.now c.take_out.new.nodes c.deref_mut.ensures.value
-      c.in_default.ensures)
+    c.in_default.ensures)
 
 pub returns-in_default-clause-gaps : goal.returns-in_default-clause-gaps
 returns-in_default-clause-gaps c =
@@ -25,19 +25,19 @@ index_mut-requires c =
 pub invariant_of-self-2 : goal.invariant_of-self-2
 invariant_of-self-2 c =
     (taken_out c.self.inside c.args.self.now c.self.invariant c.self.view_is (c.args.units, c.args.at) c.deref_mut.result.now c.take_out.new.nodes c.deref_mut.ensures.value
-      c.in-Some.taken c.in-Some.ensures c.free.result c.free.ensures).keeps
+    c.in-Some.taken c.in-Some.ensures c.free.result c.free.ensures).keeps
 
 pub returns-clause-found : goal.returns-clause-found
 returns-clause-found c =
     sym (held_gap c.self.inside c.args.self.now c.self.invariant c.self.view_is (c.args.units, c.args.at) c.deref_mut.result.now c.take_out.new.nodes c.deref_mut.ensures.value
-      c.in-Some.taken c.in-Some.ensures)
+    c.in-Some.taken c.in-Some.ensures)
 
 pub returns-clause-gaps : goal.returns-clause-gaps
 returns-clause-gaps c =
     (taken_out c.self.inside c.args.self.now c.self.invariant c.self.view_is (c.args.units, c.args.at) c.deref_mut.result.now c.take_out.new.nodes c.deref_mut.ensures.value
-      c.in-Some.taken c.in-Some.ensures c.free.result c.free.ensures).gaps
+    c.in-Some.taken c.in-Some.ensures c.free.result c.free.ensures).gaps
 
 pub returns-clause-changed : goal.returns-clause-changed
 returns-clause-changed c =
     (taken_out c.self.inside c.args.self.now c.self.invariant c.self.view_is (c.args.units, c.args.at) c.deref_mut.result.now c.take_out.new.nodes c.deref_mut.ensures.value
-      c.in-Some.taken c.in-Some.ensures c.free.result c.free.ensures).changes
+    c.in-Some.taken c.in-Some.ensures c.free.result c.free.ensures).changes

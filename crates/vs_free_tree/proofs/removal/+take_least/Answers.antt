@@ -1,5 +1,4 @@
 -- The least node is that of the left side, unless that is empty.
-use Rattle.std.proofs.Common.{◌≡◌}
 use Rattle.vs_free_tree.proofs.LeastTaken.{least_itself, can_take_left, left_lower, can_join_of, taken_of}
 use Rattle.vs_free_tree.proofs.removal.+take_least.Goals as goal
 

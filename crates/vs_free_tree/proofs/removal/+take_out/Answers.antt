@@ -1,5 +1,5 @@
 -- The node is taken out of the side where its gap belongs, or its two sides are merged.
-use Rattle.std.proofs.Common.{◌≡◌, Option, sym, subst, ◌∙◌}
+use Rattle.std.proofs.Common.{Option, sym, subst, ◌∙◌}
 use Rattle.vs_free_tree.specs.declared.removal.Taken.{Taken}
 use Rattle.vs_free_tree.specs.Slots.{IsTakenOut}
 use Rattle.vs_free_tree.proofs.TakenOut.{left_of, right_of, left_lower, right_lower, can_merge, merged_of, lacks_left_of, lacks_right_of, join_left_of, join_right_of, taken_left_of, taken_right_of}

@@ -1,5 +1,4 @@
 -- The least node of the right tree stands between the left tree and the rest.
-use Rattle.std.proofs.Common.{◌≡◌}
 use Rattle.vs_free_tree.proofs.Merged.{merged_left, can_take_least, can_join_of, merged_of}
 use Rattle.vs_free_tree.proofs.removal.merge.Goals as goal
 

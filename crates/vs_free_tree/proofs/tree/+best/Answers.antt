@@ -1,5 +1,4 @@
 -- What fits stands on the right of a node that is too small, and otherwise on its left, or is its own gap.
-use Rattle.std.proofs.Common.{◌≡◌, ◌<◌, ◌≤◌}
 use Rattle.vs_free_tree.proofs.Found.{left_of, right_of, left_lower, right_lower, found_right, found_left, found_itself}
 use Rattle.vs_free_tree.proofs.tree.+best.Goals as goal
 

@@ -1,9 +1,6 @@
 -- The new node stands in the side where its gap belongs, and the node above it joins the two sides again.
-use Rattle.std.proofs.Common.{◌≡◌, ◌≢◌, ℕ, ◌^◌, ◌<◌, true, false, length, sym, ap, ◌∙◌, arith}
-use Rattle.vs_free_tree.specs.declared.tree.TheConstants.{NONE}
-use Rattle.vs_free_tree.specs.Gaps.{is_before}
-use Rattle.vs_free_tree.specs.Slots.{slot_at, gap_at}
-use Rattle.vs_free_tree.proofs.Inserted.{within_of, left_of, right_of, left_lower, right_lower, join_left_of, join_right_of, inserted_left_of, inserted_right_of, inserted_none}
+use Rattle.std.proofs.Common.{sym, ◌∙◌}
+use Rattle.vs_free_tree.proofs.Inserted.{left_of, right_of, left_lower, right_lower, join_left_of, join_right_of, inserted_left_of, inserted_right_of, inserted_none}
 use Rattle.vs_free_tree.proofs.tree.+insert.Goals as goal
 
 pub returns-then-root-eq-NONE : goal.returns-then-root-eq-NONE

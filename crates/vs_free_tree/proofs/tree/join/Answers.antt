@@ -1,6 +1,6 @@
 -- The heights of the slots are those of the sides, and tell which turn they need.
-use Rattle.std.proofs.Common.{◌≡◌, ◌+◌, ◌≤◌, arith}
-use Rattle.vs_free_tree.specs.Tree.{fork, height}
+use Rattle.std.proofs.Common.{arith}
+use Rattle.vs_free_tree.specs.Tree.{fork}
 use Rattle.vs_free_tree.specs.Slots.{entry_at}
 use Rattle.vs_free_tree.proofs.Joined.{left_height, right_height, can_link, joined}
 use Rattle.vs_free_tree.proofs.tree.join.Goals as goal

@@ -1,7 +1,7 @@
 -- Each step of the turn finds its trees, and the last leaves one tree of all.
-use Rattle.std.proofs.Common.{◌<◌, ◌≤◌, sym, subst, arith}
-use Rattle.vs_free_tree.specs.Slots.{height_at, slot_at, linked, CanLink, IsLowered}
-use Rattle.vs_free_tree.proofs.Raised.{Once, Twice, once, twice, right_within}
+use Rattle.std.proofs.Common.{◌<◌, ◌≤◌, arith}
+use Rattle.vs_free_tree.specs.Slots.{height_at, slot_at}
+use Rattle.vs_free_tree.proofs.Raised.{once, twice, right_within}
 use Rattle.vs_free_tree.proofs.tree.lower_right.Goals as goal
 
 pub link-requires : goal.link-requires
