@@ -1,5 +1,5 @@
 -- The moments of a caller in histories that go on.
-use Rattle.std.proofs.Common.{◌≡◌, ℕ, ◌==◌, Bool, true, false, cond, List, [], ◌∷◌, ◌++◌, map, refl, sym, ap, ◌∙◌, subst}
+use Rattle.std.proofs.Common.{◌≡◌, ℕ, ◌==◌, Bool, true, false, cond, List, [], ◌∷◌, ◌++◌, map, refl, sym, ap, ◌∙◌}
 use Rattle.std.proofs.lemmas.List.{append-nil}
 use mathlib.Core.List.{IsPrefix}
 use Rattle.heap_model.specs.declared.Act.{Act}
@@ -12,7 +12,7 @@ use Rattle.heap_model.specs.Alone.{by_zero}
 use Rattle.heap_model.specs.declared.Call.{Call}
 use Rattle.heap_model.specs.declared.Call.TheVariants as calls
 use Rattle.heap_model.specs.declared.Reply.TheVariants as replies
-use Rattle.heap_model.specs.Moments.{Moment, moments, moments_by, acts_of, act_of}
+use Rattle.heap_model.specs.Moments.{Moment, moments, moments_by, acts_of}
 use Rattle.heap_model.specs.Shape.{Answer, Replied, shown, HasActs, HasShape}
 
 act_in : Entry → Act
