@@ -66,7 +66,7 @@ def refusal(line, cause, text, why=None):
     """A refused script in words, with the faulty line itself."""
     lines = text.split(b'\n')
     said = script.shown(lines[line - 1].strip()) if 0 < line <= len(lines) else ''
-    faulty = f'line {line} "{said[:100]}"' if said else f'line {line}'
+    faulty = f'line {line} "{said[:100]}"' if said else f'line {line}' if line else 'the whole text'
     return f'{faulty}: {why or CAUSES.get(cause, cause)}'
 
 

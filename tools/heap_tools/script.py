@@ -15,7 +15,10 @@ FIELDS = {
     'free': 't', 'size': 't',
     'get': 't#', 'put': 't##',
 }
-FORMS = {'n': 'NAME', 't': 'TARGET', '#': 'NUMBER'}
+USAGE = {it: it for it in FIELDS} | {
+    'alloc': 'alloc NAME SIZE', 'zalloc': 'zalloc NAME SIZE', 'realloc': 'realloc TARGET SIZE', 'inplace': 'inplace TARGET SIZE',
+    'free': 'free TARGET', 'size': 'size TARGET', 'get': 'get TARGET INDEX', 'put': 'put TARGET INDEX VALUE',
+}
 SPLIT = re.compile(rb'[ \t\r]+')
 NAME = re.compile(rb'[A-Za-z_][A-Za-z0-9_]{0,31}')
 NUMBER = re.compile(rb'[0-9]{1,20}')
@@ -102,7 +105,8 @@ def why_no_name(raw):
     if len(raw) > 32:
         return f'"{text}" has {len(raw)} bytes, and a name has at most 32'
     if raw[:1].isdigit():
-        return f'"{text}" begins with a digit: a name begins with a letter or _ (an address is written @{text})'
+        address = f' (an address is written @{text})' if raw.isdigit() else ''
+        return f'"{text}" begins with a digit: a name begins with a letter or _{address}'
     return f'"{text}" is no name: a name is a letter or _ first, then letters, digits or _'
 
 
@@ -113,10 +117,9 @@ def read_fields(at, fields):
     if form is None:
         raise Fault(at, 'badline', f'"{shown(fields[0])}" is no word of the language', fields)
     if len(fields) != 1 + len(form):
-        wants = ' '.join([word, *(FORMS[it] for it in form)])
         have = len(fields) - 1
         need = 'no field' if not form else f'{len(form)} field{"s" * (len(form) > 1)}'
-        raise Fault(at, 'badline', f'"{word}" needs {need} behind it and has {have}: the form is "{wants}"', fields)
+        raise Fault(at, 'badline', f'"{word}" needs {need} behind it and has {have}: the form is "{USAGE[word]}"', fields)
     command = Command(at, word)
     numbers = []
     for kind, raw in zip(form, fields[1:]):

@@ -17,6 +17,7 @@ class Step:
     layer: str = None
     why: list = field(default_factory=list)
     note: str = None        # where the rules give another reply
+    blocks: tuple = ()      # of a walk
 
 
 @dataclass
@@ -112,6 +113,7 @@ class Teller:
         address = None if makes else self.target(command, own)
         answer = self.heap.serve(command, address, t) if self.story.is_followed else None
         step = Step(r, t, command, reply, reply.text() if reply is not None else text_of(answer), address)
+        step.blocks = reply.blocks if reply is not None else answer.blocks
         if answer is not None:
             step.layer, step.why = answer.layer, answer.why
             self.compare(step, answer, together)
