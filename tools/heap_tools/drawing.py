@@ -354,12 +354,20 @@ def letters_of(state, colour, mark=None):
         elif run.kind == 'lfh':
             lines += lfh_letters(run, colour, mark)
         elif run.kind == 'back':
-            lines += [f'back page {run.first}, {run.pages} pages: {called(key_of(it))}, {run.end - it.end + it.bytes - it.size:,} unused{" <" if it.address == mark else ""}' for it in run.blocks]
+            lines += [f'back page {run.first}, {pages_in(run)}: {called(key_of(it))}, {run.end - it.end + it.bytes - it.size:,} unused{" <" if it.address == mark else ""}' for it in run.blocks]
     for run in state.large:
-        lines += [f'large page {run.first}, {run.pages} pages: {called(key_of(it))}{" <" if it.address == mark else ""}' for it in run.blocks]
+        lines += [f'large page {run.first}, {pages_in(run)}: {called(key_of(it))}{" <" if it.address == mark else ""}' for it in run.blocks]
     if not state.segments and not state.large:
         lines.append('no segment is reserved, and no block lives')
     return lines
+
+
+def counted(n, word):
+    return f'{n:,} {word}{"" if n == 1 else "s"}'
+
+
+def pages_in(run):
+    return counted(run.pages, 'page')
 
 
 def segment_letters(segment, runs, colour):
@@ -389,14 +397,14 @@ def vs_letters(run, colour, mark):
         cells.append((letter, None))
     gaps = sorted(run.gaps(), key=lambda it: -it[1])
     said = f'; {len(gaps)} gaps, the largest {gaps[0][1]:,} bytes at {gaps[0][0]:#x}' if len(gaps) > 1 else f'; a gap of {gaps[0][1]:,} bytes at {gaps[0][0]:#x}' if gaps else '; no gap'
-    return [f'vs page {run.first}, {run.pages} pages: {len(run.blocks)} blocks{said}', f'{"":7}{painted(cells, colour)}']
+    return [f'vs page {run.first}, {pages_in(run)}: {counted(len(run.blocks), "block")}{said}', f'{"":7}{painted(cells, colour)}']
 
 
 def lfh_letters(run, colour, mark):
     size, count = rules.block_size(run.bucket), rules.block_count(run.bucket)
     taken = {(it.address - run.start - LFH_START) // size: it for it in run.blocks}
     cells = [('<' if taken[i].address == mark else '█', None) if i in taken else ('·', None) for i in range(count)]
-    lines = [f'lfh page {run.first}, {run.pages} pages: bucket {run.bucket} of {size:,} bytes, slot {run.slot}, {len(taken)} of {count} blocks']
+    lines = [f'lfh page {run.first}, {pages_in(run)}: bucket {run.bucket} of {size:,} bytes, slot {run.slot}, {len(taken)} of {count} blocks']
     for first in range(0, count, 64):
         lines.append(f'{first:>6} {painted(cells[first:first + 64], colour)}')
     return lines

@@ -59,25 +59,50 @@ def picture(parts, title):
 
 
 class Film:
-    """Frames, each a list of parts; a part that stays the same is kept once."""
+    """Frames, each a list of parts; a part that stays the same is kept once. Where the page would be too large, each second frame goes."""
+    MOST = 40_000_000
 
     def __init__(self):
-        self.parts, self.numbers, self.frames = [], {}, []
+        self.frames, self.seen, self.size = [], set(), 0
+        self.every = 1          # frames that were added for one that is kept
+        self.added = 0
 
-    def add(self, what, why, parts):
-        ids = []
+    def add(self, what, why, parts, is_last=False):
+        self.added += 1
+        if self.added % self.every and not is_last:
+            return
+        self.frames.append((what, why, parts))
+        self.weigh(parts)
+        while self.size > self.MOST and len(self.frames) > 2:
+            self.frames = self.frames[1::2] if len(self.frames) % 2 == 0 else self.frames[::2]
+            self.every *= 2
+            self.seen, self.size = set(), 0
+            for _, _, kept in self.frames:
+                self.weigh(kept)
+
+    def weigh(self, parts):
         for part in parts:
-            if part not in self.numbers:
-                self.numbers[part] = len(self.parts)
-                self.parts.append([part.height, part.svg])
-            ids.append(self.numbers[part])
-        self.frames.append([what, why, ids])
+            if part not in self.seen:
+                self.seen.add(part)
+                self.size += len(part.svg)
+
+    def numbered(self):
+        """The parts, each once, and the frames by their numbers."""
+        parts, numbers, frames = [], {}, []
+        for what, why, shown in self.frames:
+            for part in shown:
+                if part not in numbers:
+                    numbers[part] = len(parts)
+                    parts.append([part.height, part.svg])
+            frames.append([what, why, [numbers[it] for it in shown]])
+        return parts, frames
 
     def page(self, title):
         bar = ('<div id="film"><button id="back">&lt;</button> <button id="play">play</button> <button id="next">&gt;</button> '
                f'<input id="slide" type="range" min="0" max="{len(self.frames) - 1}" value="0" aria-label="command"> <span id="count"></span>'
                '<div id="what"></div><div id="why"></div></div><div id="stack"></div>')
-        data = f'const PARTS={safe(self.parts)};\nconst FRAMES={safe(self.frames)};\n'
+        parts, frames = self.numbered()
+        data = f'const PARTS={safe(parts)};\nconst FRAMES={safe(frames)};\n'
         return whole(title, bar, data + FILM.replace('WIDE', str(WIDTH)) + HOVER)
 
 

@@ -1,6 +1,7 @@
 """The program itself beside the rules, through ./segheap, which builds it where it is not there."""
 import os
 import random
+import re
 import shutil
 import subprocess
 import tempfile
@@ -28,6 +29,11 @@ def scripts():
         yield '\n'.join(lines) + '\n', 1 + seed % 3
 
 
+def open_text(name):
+    with open(os.path.join(HERE, name), encoding='utf-8') as it:
+        return it.read()
+
+
 class Program(unittest.TestCase):
     @classmethod
     def setUpClass(cls):
@@ -47,6 +53,17 @@ class Program(unittest.TestCase):
             status, out, said = ran('explain', os.path.join('examples', name))
             self.assertEqual((status, said), (0, ''), name)
             self.assertNotIn('!', out)
+
+    def test_documents(self):
+        """The examples of README and of --help, and the pictures of the documents, are what they show."""
+        readme = open_text('README.md')
+        for text in (readme, ran('segheap', '--help')[1]):
+            shown = re.search(r"^ *\$ printf '(.*)' \| ./segheap --mode one\n((?: +\S.*\n)+)", text, re.M)
+            wanted = ''.join(it.strip() + '\n' for it in shown[2].splitlines())
+            self.assertEqual(ran('segheap', '--mode', 'one', given=shown[1].replace('\\n', '\n'))[1], wanted)
+        letters = ran('picture', 'examples/bucket.heap')[1].splitlines()[2:]
+        self.assertTrue(''.join(f'    {it}\n' for it in letters) in readme)
+        self.assertTrue(ran('picture', 'examples/bucket.heap', '--svg', '-')[1] == open_text('docs/picture.svg'), 'tools/picture examples/bucket.heap --svg docs/picture.svg')
 
     def test_not_built(self):
         status, out, said = ran('explain', given='alloc a 5\nrealloc a 9\n')
