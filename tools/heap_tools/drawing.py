@@ -300,7 +300,7 @@ def large_part(state, mark):
     scale = SPAN / max(1, end - start)
     held = sum(it.pages for it in state.large)
     known = f'{end - start:,} pages' if state.large_pages is not None else 'as far as its last block'
-    svg = [text(4, 21, 'Large area', 'h'), text(LEFT, 21, f'{known}, from {hex_of(start * PAGE)} on: {held:,} pages in {len(state.large)} blocks', 's')]
+    svg = [text(4, 21, 'Large area', 'h'), text(LEFT, 21, f'{known}, from {hex_of(start * PAGE)} on: {counted(held, "page")} in {counted(len(state.large), "block")}', 's')]
     svg.append(box(LEFT, 30, SPAN, 26, 'free pg', f'large area: pages {start} to {end - 1}'))
     for run in state.large:
         x, wide = LEFT + (run.first - start) * scale, run.pages * scale
