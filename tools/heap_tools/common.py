@@ -86,11 +86,10 @@ CAUSES = {
 def run_program(words, text):
     """The output of the program on a script: through ./segheap, which builds the program where it is not there."""
     try:
-        ran = subprocess.run([SEGHEAP, *words], input=text, stdout=subprocess.PIPE, stderr=subprocess.PIPE)
+        ran = subprocess.run([SEGHEAP, *words], input=text, stdout=subprocess.PIPE, env=os.environ | {'SEGHEAP_ADVICE': 'none'})
     except OSError as error:
         raise Stop(f'{SEGHEAP} cannot be run: {error.strerror}') from None
     if ran.returncode not in (0, 2, 3):
-        sys.stderr.buffer.write(ran.stderr)
         raise Stop(f'./segheap {" ".join(words)} ended with status {ran.returncode}')
     return ran.stdout
 

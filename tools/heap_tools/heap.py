@@ -282,7 +282,7 @@ class Heap:
             return self.small_block(size, bucket, caller, why)
         layer = rules.route(size)
         if layer == 'vs':
-            why.append(f'{count(size, "byte")} have no bucket')
+            why.append(f'{count(size, "byte")}, too large for a bucket: variable size')
             return self.vs_block(size, why)
         if layer == 'back':
             return self.back_block(size, why)
@@ -396,12 +396,14 @@ class Heap:
 
     def back_block(self, size, why):
         span = Span('back', 0, 0, blocks=1)
+        why.append(f'{count(size, "byte")}, too large for the variable-size layer: {rules.pages_of(size)} pages of the back end')
         if not self.back.take(rules.pages_of(size), span, why):
             return None
         return self.made(Block(PAGE * span.first, size, 'back', span.first))
 
     def large_block(self, size, why):
         pages = rules.pages_of(size)
+        why.append(f'{count(size, "byte")}, too large for the back end: {count(pages, "page")} of the large area')
         first = self.large.take(pages)
         if first is None:
             longest = max((n for _, n in self.large.gaps()), default=0)

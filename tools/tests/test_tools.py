@@ -48,11 +48,11 @@ class Explain(Folder):
         rows = {int(it.split()[0]): it for it in out.splitlines() if re.match(r' *\d+  ', it)}
         self.assertEqual(status, 0)
         for line, parts in {
-            1: ['0x2040', 'vs', '131,072 bytes have no bucket', 'segment 0 is reserved', 'new subsegment of 33 pages at page 2'],
+            1: ['0x2040', 'vs', '131,072 bytes, too large for a bucket: variable size', 'segment 0 is reserved', 'new subsegment of 33 pages at page 2'],
             2: ['0x22050', 'bucket 2 is inactive (0 of 17 live, 0 of 2,040 placed)', 'the smallest gap that has 3 granules'],
             3: ['ok', 'at 0x2040', 'gap of'],
             4: ['notlive', 'no live block begins there'],
-            5: ['0x1000000', 'large', 'lowest run of the large area that has 128 pages'],
+            5: ['0x1000000', 'large', '520,193 bytes, too large for the back end: 128 pages', 'lowest run of the large area that has 128 pages'],
             6: ['notlive', 'the address is 0'],
         }.items():
             for part in parts:
