@@ -17,7 +17,10 @@ MOST_NAMES = 5
 
 
 # Words of other languages for ours.
-OTHERS = {'malloc': 'alloc', 'new': 'alloc', 'allocate': 'alloc', 'calloc': 'zalloc', 'delete': 'free', 'dealloc': 'free', 'read': 'get', 'write': 'put', 'resize': 'realloc'}
+OTHERS = {
+    'malloc': 'alloc', 'new': 'alloc', 'allocate': 'alloc', 'calloc': 'zalloc', 'delete': 'free', 'dealloc': 'free',
+    'read': 'get', 'write': 'put', 'resize': 'realloc',
+}
 
 
 def nearest(word, of):

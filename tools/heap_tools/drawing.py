@@ -59,6 +59,11 @@ def box(x, y, wide, high, kind, title=''):
     return f'{head}>{inner}' if title else head + '/>'
 
 
+def bare(x, y, wide, high, kind):
+    """A box that lies over others and leaves hovering to them."""
+    return f'<rect x="{x:.1f}" y="{y}" width="{wide:.1f}" height="{high}" class="{kind}" pointer-events="none"/>'
+
+
 def fitting(words, wide, size=5.6):
     """The words where they fit a width, or their front."""
     most = int(wide / size)
@@ -177,11 +182,11 @@ def taken_in_row(run, row):
             pieces.append([start, end])
     svg = []
     for start, end in pieces:
-        svg.append(f'<rect x="{LEFT + (start - low) * scale:.1f}" y="{BAND + 3}" width="{max(0.7, (end - start) * scale):.1f}" height="{HIGH - 9}" class="{kind}1" pointer-events="none"/>')
+        svg.append(bare(LEFT + (start - low) * scale, BAND + 3, max(0.7, (end - start) * scale), HIGH - 9, f'{kind}1'))
     for address, size, _, _, start, length, marked in run[8]:
         if marked:
             start, end = max(start, low), min(start + length, high)
-            svg.append(f'<rect x="{LEFT + (start - low) * scale - 1:.1f}" y="{BAND + 1}" width="{max(2, (end - start) * scale + 2):.1f}" height="{HIGH - 5}" class="mark" pointer-events="none"/>')
+            svg.append(bare(LEFT + (start - low) * scale - 1, BAND + 1, max(2, (end - start) * scale + 2), HIGH - 5, 'mark'))
     return svg
 
 
@@ -206,7 +211,7 @@ def vs_parts(run, mark):
     most = max((n for _, n in gaps), default=0)
     blocks = len(run.blocks)
     words = f'VS subsegment at page {run.first}'
-    more = f'{run.pages} pages, {blocks} block{"" if blocks == 1 else "s"}, {len(gaps)} gap{"" if len(gaps) == 1 else "s"}' + (f', the largest of {most:,} bytes' if gaps else '')
+    more = f'{pages_in(run)}, {counted(blocks, "block")}, {counted(len(gaps), "gap")}' + (f', the largest of {most:,} bytes' if gaps else '')
     found = [Part(28, text(4, 21, words, 'h') + text(LEFT + 130, 21, more, 's'))]
     chunks = [(run.start, VS_START, None, False)]
     chunks += [(it.start, it.bytes, key_of(it), it.address == mark) for it in run.blocks] + [(a, n, None, False) for a, n in gaps]
@@ -252,10 +257,10 @@ def chunk_row(page, chunks):
             title = f'{called(block)}, in {length:,} bytes with its header ({length // 16:,} granules)'
             svg.append(box(x, 1, wide, 20, 'vs1 pg', title))
             if begin == start:
-                svg.append(f'<rect x="{x:.1f}" y="1" width="{16 * scale:.1f}" height="20" class="vs2" pointer-events="none"/>')
+                svg.append(bare(x, 1, 16 * scale, 20, 'vs2'))
             svg.append(label(x + 16 * scale, wide - 16 * scale, (f'{block[3]} ' if block[3] else '') + f'{block[1]:,}', 'w'))
         if marked:
-            svg.append(f'<rect x="{x:.1f}" y="1" width="{wide:.1f}" height="20" class="mark" pointer-events="none"/>')
+            svg.append(bare(x, 1, wide, 20, 'mark'))
     return Part(24, ''.join(svg))
 
 
@@ -289,7 +294,7 @@ def slot_row(base, size, cells):
             svg.append(box(x, 1, CELL, HIGH, 'lfh1 slot', f'block {i}, {called(block)} of {size:,}'))
             svg.append(f'<g pointer-events="none">{text(x + 3, 11, str(i), "t w")}{text(x + 3, 21, fitting(block[3] or f"{block[1]:,}", CELL - 2, 5), "t w")}</g>')
             if block[6]:
-                svg.append(f'<rect x="{x + 1}" y="2" width="{CELL - 2}" height="{HIGH - 2}" class="mark" pointer-events="none"/>')
+                svg.append(bare(x + 1, 2, CELL - 2, HIGH - 2, 'mark'))
     return Part(HIGH + 3, ''.join(svg))
 
 
@@ -300,7 +305,8 @@ def large_part(state, mark):
     scale = SPAN / max(1, end - start)
     held = sum(it.pages for it in state.large)
     known = f'{end - start:,} pages' if state.large_pages is not None else 'as far as its last block'
-    svg = [text(4, 21, 'Large area', 'h'), text(LEFT, 21, f'{known}, from {hex_of(start * PAGE)} on: {counted(held, "page")} in {counted(len(state.large), "block")}', 's')]
+    more = f'{known}, from {hex_of(start * PAGE)} on: {counted(held, "page")} in {counted(len(state.large), "block")}'
+    svg = [text(4, 21, 'Large area', 'h'), text(LEFT, 21, more, 's')]
     svg.append(box(LEFT, 30, SPAN, 26, 'free pg', f'large area: pages {start} to {end - 1}'))
     for run in state.large:
         x, wide = LEFT + (run.first - start) * scale, run.pages * scale
@@ -309,7 +315,7 @@ def large_part(state, mark):
         if block:
             svg.append(f'<g transform="translate(0 32)">{label(x, wide, (f"{block[3]} " if block[3] else "") + f"{block[1]:,}", "w")}</g>')
             if block[0] == mark:
-                svg.append(f'<rect x="{x:.1f}" y="30" width="{wide:.1f}" height="26" class="mark" pointer-events="none"/>')
+                svg.append(bare(x, 30, wide, 26, 'mark'))
     return Part(64, ''.join(svg))
 
 
@@ -320,7 +326,8 @@ def svg_of(parts, title):
         rows.append(f'<g transform="translate(0 {at})">{part.svg}</g>')
         at += part.height
     head = f'<svg xmlns="http://www.w3.org/2000/svg" viewBox="-12 -8 {WIDTH + 24} {at + 16}" width="{WIDTH + 24}" height="{at + 16}">'
-    return f'{head}<title>{escape(title)}</title><style>{STYLE}</style><rect x="-12" y="-8" width="100%" height="100%" fill="#fff"/>{text(4, 18, title, "h")}{"".join(rows)}</svg>\n'
+    ground = '<rect x="-12" y="-8" width="100%" height="100%" fill="#fff"/>'
+    return f'{head}<title>{escape(title)}</title><style>{STYLE}</style>{ground}{text(4, 18, title, "h")}{"".join(rows)}</svg>\n'
 
 
 # The same in letters.
@@ -354,7 +361,8 @@ def letters_of(state, colour, mark=None):
         elif run.kind == 'lfh':
             lines += lfh_letters(run, colour, mark)
         elif run.kind == 'back':
-            lines += [f'back page {run.first}, {pages_in(run)}: {called(key_of(it))}, {run.end - it.end + it.bytes - it.size:,} unused{" <" if it.address == mark else ""}' for it in run.blocks]
+            lines += [f'back page {run.first}, {pages_in(run)}: {called(key_of(it))}, {it.bytes - it.size:,} unused{" <" if it.address == mark else ""}'
+                      for it in run.blocks]
     for run in state.large:
         lines += [f'large page {run.first}, {pages_in(run)}: {called(key_of(it))}{" <" if it.address == mark else ""}' for it in run.blocks]
     if not state.segments and not state.large:
@@ -396,7 +404,10 @@ def vs_letters(run, colour, mark):
         letter = '<' if marked else '█' if taken > 0.98 * wide else '▓' if taken > 0.5 * wide else '▒' if taken else '·'
         cells.append((letter, None))
     gaps = sorted(run.gaps(), key=lambda it: -it[1])
-    said = f'; {len(gaps)} gaps, the largest {gaps[0][1]:,} bytes at {gaps[0][0]:#x}' if len(gaps) > 1 else f'; a gap of {gaps[0][1]:,} bytes at {gaps[0][0]:#x}' if gaps else '; no gap'
+    said = '; no gap'
+    if gaps:
+        said = f'; {len(gaps)} gaps, the largest' if len(gaps) > 1 else '; a gap of'
+        said += f' {gaps[0][1]:,} bytes at {gaps[0][0]:#x}'
     return [f'vs page {run.first}, {pages_in(run)}: {counted(len(run.blocks), "block")}{said}', f'{"":7}{painted(cells, colour)}']
 
 

@@ -220,7 +220,8 @@ class Writer:
 LEFT = {
     'free': ('left out: {n} free of an address never seen', 'left out: {n} frees of addresses never seen'),
     'failed': ('left out: {n} request that the program was refused', 'left out: {n} requests that the program was refused'),
-    'large': ('left out: {n} request of more than 520,192 bytes, which --plain does not take', 'left out: {n} requests of more than 520,192 bytes, which --plain does not take'),
+    'large': ('left out: {n} request of more than 520,192 bytes, which --plain does not take',
+              'left out: {n} requests of more than 520,192 bytes, which --plain does not take'),
     'strange': ('{n} reallocation of an address never seen stands as an allocation', '{n} reallocations of addresses never seen stand as allocations'),
     'unseen': ('{n} block was freed unseen, as its address was given again', '{n} blocks were freed unseen, as their addresses were given again'),
 }

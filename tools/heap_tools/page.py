@@ -12,12 +12,14 @@ h1{font-size:17px;margin:4px 0 8px}svg.p{display:block;width:100%;max-width:1204
 #film input{width:70%;vertical-align:middle}#film button{font:inherit;padding:1px 9px}
 #what{font-weight:600;margin-top:4px}#why{color:#555;min-height:2.6em;line-height:1.3em}
 .new{box-shadow:-4px 0 0 #d4002a}
-@media print{#say,#film input,#film button{display:none}#film{position:static}.new{box-shadow:none}body{padding:0;-webkit-print-color-adjust:exact;print-color-adjust:exact}svg.p{break-inside:avoid}}
+@media print{#say,#film input,#film button{display:none}#film{position:static}.new{box-shadow:none}
+body{padding:0;-webkit-print-color-adjust:exact;print-color-adjust:exact}svg.p{break-inside:avoid}}
 """
 
 HOVER = """
 const say=document.getElementById('say');
-document.addEventListener('mouseover',e=>{const t=e.target.querySelector&&e.target.closest('rect');const w=t&&t.querySelector('title');say.textContent=w?w.textContent:''});
+document.addEventListener('mouseover',e=>{
+  const t=e.target.querySelector&&e.target.closest('rect');const w=t&&t.querySelector('title');say.textContent=w?w.textContent:''});
 """
 
 FILM = """

@@ -2,7 +2,7 @@
 from dataclasses import dataclass, field
 
 from . import rules
-from .rules import GRANULE, LFH_START, PAGE, SEGMENT_PAGES, VS_START
+from .rules import GRANULE, PAGE, VS_START
 
 
 @dataclass(slots=True)

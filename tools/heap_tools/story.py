@@ -153,10 +153,12 @@ class Teller:
             return
         self.story.is_followed = False
         if together or is_many(self.script):
-            self.story.notes.append(f'From line {step.command.line} on the replies are those of another order of the threads: what is said from there on is said by sizes and addresses alone.')
+            self.story.notes.append(f'From line {step.command.line} on the replies are those of another order of the threads: what is said from '
+                                    'there on is said by sizes and addresses alone.')
         else:
             step.note = f'the rules give {text_of(answer)} here'
-            self.story.notes.append(f'Line {step.command.line}: the output has "{step.text}" where the rules give "{text_of(answer)}". Was it run with other words (--segments), or another script? From here on reasons are said by sizes alone.')
+            self.story.notes.append(f'Line {step.command.line}: the output has "{step.text}" where the rules give "{text_of(answer)}". '
+                                    'Was it run with other words (--segments), or another script? From here on reasons are said by sizes alone.')
 
     def by_size(self, step, makes):
         """What the size alone tells."""
