@@ -2,6 +2,8 @@
 import re
 from dataclasses import dataclass
 
+from .script import MOST_NUMBER
+
 MTRACE = re.compile(r'(?:@ .* )?([-+<>!]) (0x[0-9a-fA-F]+|\(nil\))(?: (0x[0-9a-fA-F]+|0))?\s*\Z')
 MARKS = re.compile(r'= (Start|End)\s*\Z')
 WORDS = 'malloc|calloc|realloc|free'
@@ -124,7 +126,7 @@ class Writer:
         self.plain, self.limit = plain, limit
         self.names, self.count = {}, 0
         self.lines, self.bytes = [], 0
-        self.large = set()          # blocks that --plain leaves out
+        self.large = set()          # blocks that are left out for their size
         self.cut = 0                # commands behind the limit
         self.made = dict.fromkeys(('alloc', 'free', 'realloc'), 0)
         self.left = dict.fromkeys(LEFT, 0)
@@ -162,13 +164,19 @@ class Writer:
             self.left['unseen'] += 1
             self.free(event.new)
         self.large.discard(event.new)
-        if self.plain and event.size > PLAIN_MOST:
-            self.large.add(event.new)
-            self.left['large'] += 1
+        if self.is_left_out(event):
             return
         word = 'zalloc' if event.zero and not self.plain else 'alloc'
         self.names[event.new] = name = self.name()
         self.made['alloc'] += self.line(f'{word} {name} {event.size}')
+
+    def is_left_out(self, event):
+        """Whether the request is too large, for --plain or for any script; then the block's end is left out too."""
+        why = 'wild' if event.size > MOST_NUMBER else 'large' if self.plain and event.size > PLAIN_MOST else None
+        if why:
+            self.large.add(event.new)
+            self.left[why] += 1
+        return why is not None
 
     def free(self, address):
         if address == 0:
@@ -190,9 +198,7 @@ class Writer:
             self.left['unseen'] += 1
             self.free(event.new)
         old = self.names.pop(event.old)
-        if self.plain and event.size > PLAIN_MOST:
-            self.large.add(event.new)
-            self.left['large'] += 1
+        if self.is_left_out(event):
             self.made['free'] += self.line(f'free {old}')
             return
         if not self.plain:
@@ -222,6 +228,8 @@ LEFT = {
     'failed': ('left out: {n} request that the program was refused', 'left out: {n} requests that the program was refused'),
     'large': ('left out: {n} request of more than 520,192 bytes, which --plain does not take',
               'left out: {n} requests of more than 520,192 bytes, which --plain does not take'),
+    'wild': ('left out: {n} request whose size is above 64 bits, as ltrace prints some wrongly',
+             'left out: {n} requests whose sizes are above 64 bits, as ltrace prints some wrongly'),
     'strange': ('{n} reallocation of an address never seen stands as an allocation', '{n} reallocations of addresses never seen stand as allocations'),
     'unseen': ('{n} block was freed unseen, as its address was given again', '{n} blocks were freed unseen, as their addresses were given again'),
 }

@@ -70,6 +70,10 @@ class Trace(unittest.TestCase):
         text = '+ 0x10 0x7f001\n- 0x10\n+ 0x20 0x7f000\n< 0x20\n> 0x30 0x100000\n- 0x30\n'
         self.assertEqual(traced(text, plain=True)[0], ['alloc b1 520192', 'free b1'])
 
+    def test_sizes_beyond_a_script(self):
+        lines, writer, _ = traced('calloc(94176697277184, 2048000) = 0x10\nfree(0x10) = <void>\nmalloc(5) = 0x20\nrealloc(0x20, 99999999999999999999) = 0x30\nfree(0x30) = <void>\n')
+        self.assertEqual((lines, writer.left['wild'], writer.left['free']), (['alloc b1 5', 'free b1'], 2, 0))
+
     def test_unseen(self):
         """An address that is given again was freed where the log does not show it."""
         lines, writer, _ = traced('+ 0x10 0x8\n+ 0x10 0x9\n< 0x77\n> 0x88 0x5\n')
