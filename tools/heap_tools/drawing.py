@@ -349,9 +349,13 @@ def painted(pieces, colour):
     return ''.join(out)
 
 
+LETTERS = ['pages: # header  . free  : free and committed  V v variable size (VS)  L l low-fragmentation (LFH)',
+           '       B b back end; a capital begins a span']
+
+
 def letters_of(state, colour, mark=None):
     """The picture in lines of text."""
-    lines = ['pages: # header  . free  : free, committed  V v variable size (VS)  L l low-fragmentation (LFH)  B b back end; a capital begins a span']
+    lines = []
     for segment in state.segments:
         runs = [it for it in state.runs if it.first // SEGMENT_PAGES == segment]
         lines += segment_letters(segment, runs, colour)

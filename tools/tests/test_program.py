@@ -61,7 +61,7 @@ class Program(unittest.TestCase):
             shown = re.search(r"^ *\$ printf '(.*)' \| ./segheap --mode one\n((?: +\S.*\n)+)", text, re.M)
             wanted = ''.join(it.strip() + '\n' for it in shown[2].splitlines())
             self.assertEqual(ran('segheap', '--mode', 'one', given=shown[1].replace('\\n', '\n'))[1], wanted)
-        letters = ran('picture', 'examples/bucket.heap')[1].splitlines()[2:]
+        letters = ran('picture', 'examples/bucket.heap')[1].splitlines()[3:]
         self.assertTrue(''.join(f'    {it}\n' for it in letters) in readme)
         self.assertTrue(ran('picture', 'examples/bucket.heap', '--svg', '-')[1] == open_text('docs/picture.svg'), 'tools/picture examples/bucket.heap --svg docs/picture.svg')
 

@@ -128,8 +128,8 @@ class Picture(Folder):
         status, out, _ = ran('picture', given=OUTPUT)
         rows = out.splitlines()
         self.assertEqual(status, 0)
-        self.assertEqual(rows[3], '     0 ##' + ':' * 33 + 'B' + 'b' * 28)
-        self.assertEqual(rows[4], '    64 bbbb' + '.' * 60)
+        self.assertEqual(rows[4], '     0 ##' + ':' * 33 + 'B' + 'b' * 28)
+        self.assertEqual(rows[5], '    64 bbbb' + '.' * 60)
         self.assertIn('\033[45;97mB', ran('picture', '--color', 'always', given=OUTPUT)[1])
 
     def test_svg(self):
