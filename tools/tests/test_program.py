@@ -7,7 +7,7 @@ import subprocess
 import tempfile
 import unittest
 
-from heap_tools import common, report, script, story
+from heap_tools import advice, common, report, script, story
 from tool import HERE, TESTS, ran
 
 SIZES = [[(0, 64)], [(0, 16_368)], [(1, 16), (16_369, 131_072)], [(131_073, 520_192), (1, 100)], [(0, 300), (1_000, 1_200), (8_000, 16_368)]]
@@ -29,6 +29,25 @@ def scripts():
         yield '\n'.join(lines) + '\n', 1 + seed % 3
 
 
+FIELDS = ['a', '9x', 'n' * 32, 'n' * 33, '@5', '@x', '@', '0', '520192', '520193', '18446744073709551615', '18446744073709551616', '1' * 21, '-1', 'é']
+
+
+def texts():
+    """A hundred texts that are mostly no script, or one that the program does not run."""
+    words = [*script.FIELDS, 'foo', '#c', '']
+    for seed in range(100):
+        rng = random.Random(seed)
+        lines = []
+        for _ in range(rng.randint(1, 8)):
+            word = rng.choice(words)
+            if seed % 2:
+                fields = [rng.choice(FIELDS) for _ in range(rng.randint(0, 3))]
+            else:
+                fields = [rng.choice({'n': ['a', 'b'], 't': ['a', '@5'], '#': ['5', '520193']}[it]) for it in script.FIELDS.get(word, '')]
+            lines.append(rng.choice([' ', '']) + rng.choice(['  ', '\t']).join([word, *fields]) + rng.choice(['', '\r']))
+        yield ('\n'.join(lines) + rng.choice(['', '\n'])).encode()
+
+
 def open_text(name):
     with open(os.path.join(HERE, name), encoding='utf-8') as it:
         return it.read()
@@ -47,6 +66,13 @@ class Program(unittest.TestCase):
             out = subprocess.run([common.PROGRAM, '--mode', 'one', '--segments', str(segments)], input=text.encode(), stdout=subprocess.PIPE, check=True).stdout
             told = story.tell(script.read_script(text.encode()), report.read_report(out), story.Setting(segments))
             self.assertEqual((told.is_followed, told.notes), (True, []))
+
+    def test_faults_and_program(self):
+        """The line and the cause that segheap tells in words are those that the program prints."""
+        for text in texts():
+            out = subprocess.run([common.PROGRAM, '--mode', 'one'], input=text, stdout=subprocess.PIPE).stdout.decode()
+            fault = advice.script_fault(text)
+            self.assertEqual(out if out.startswith('line') else None, f'line {fault.line} {fault.cause}\n' if fault else None, text)
 
     def test_examples(self):
         for name in sorted(os.listdir(os.path.join(HERE, 'examples'))):
