@@ -1,8 +1,9 @@
 -- How a call is answered, by the entries of its caller and by what the caller finds.
-use Rattle.std.proofs.Common.{◌≡◌, ℕ, ◌+◌, ◌-◌, ◌*◌, ◌/◌, Bool, true, false, ◌&&◌, cond, List, [], ◌∷◌, ◌++◌, map, Some, refl, sym, ap, subst, ◌∙◌, inl, inr, eqb, leb}
+use Rattle.std.proofs.Common.{◌≡◌, ℕ, ◌+◌, ◌-◌, ◌*◌, ◌/◌, Bool, true, false, ◌&&◌, cond, List, [], ◌∷◌, ◌++◌, map, Some, refl, sym, ap, subst, ◌∙◌, inl, inr, eqb, leb, not}
 use Rattle.std.specs.List.{list_any}
 use Rattle.std.proofs.lemmas.Bool.{cases_Bool, eq-eqb, true≢false}
 use Rattle.heap_model.specs.declared.Act.{Act}
+use Rattle.heap_model.specs.declared.Entry.{Entry}
 use Rattle.heap_model.specs.declared.Act.TheVariants as acts
 use Rattle.heap_model.specs.declared.Layer.{Layer}
 use Rattle.heap_model.specs.declared.Layer.TheVariants as layers
@@ -12,15 +13,15 @@ use Rattle.heap_model.specs.Ranges.{gaps_of, large_runs}
 use Rattle.heap_model.specs.Stay.{run_from, reach_back, lets_stay}
 use Rattle.heap_model.specs.CallState.{Configuration, caller_view}
 use Rattle.heap_model.specs.Legal.{after, may_touch}
-use Rattle.heap_model.specs.History.{configuration_after}
+use Rattle.heap_model.specs.History.{configuration_after, own}
 use Rattle.heap_model.specs.Agreement.{AgreesFor}
-use Rattle.heap_model.specs.Moments.{Moment, moments, acts_of, state_before}
+use Rattle.heap_model.specs.Moments.{Moment, moments, acts_of, state_before, state_before_last}
 use Rattle.heap_model.specs.Shape.{shape_of, HasActs}
 use Rattle.heap_model.specs.Served.{IsOneCall}
 use Rattle.heap_model.proofs.Moments.{moments_acts, told_by_acts}
 use Rattle.heap_soundness.specs.Sound.{IsOneOf}
 use Rattle.call_laws.specs.Within.{by_caller, by_all}
-use Rattle.call_laws.specs.Told.{OwnActsAnswer, FirstIsBefore, FindingStays}
+use Rattle.call_laws.specs.Told.{OwnActsAnswer, OwnActsAreShown, FirstIsBefore, LastIsBefore, FindingStays}
 use Rattle.call_laws.proofs.Within.{keeps, place_is, in_hand_of}
 
 ---- By own acts
@@ -38,6 +39,11 @@ own_acts_answer s c m es call answer rest own_is none shape =
       shape = told_by_acts s c call answer xs (subst (λ (l : List Act). HasActs call answer (shape_of l)) is shape);
     }
 
+pub own_acts_are_shown : OwnActsAreShown
+own_acts_are_shown s c m es call rest own_is none =
+    let is : acts.Begin call ∷ rest ≡ acts_of (moments s c m es) = sym (moments_acts s c m es ∙ (ap (map (λ e. e.act)) own_is ∙ acts_again c (acts.Begin call ∷ rest))) in
+    (subst (IsOneCall call) is (refl, none), ap shape_of (sym is))
+
 ---- Before an act
 
 -- an act that does not pass is passed over
@@ -54,6 +60,29 @@ first_is_before s c m [] later act test h none = let e = eq-eqb c c refl in rw e
 first_is_before s c m (e ∷ first) later act test h none =
     pass_over (eqb e.caller c) test m e.act (moments s c (after s m e) first) (moments s c (after s m e) (first ++ by_caller c act ∷ later)) (configuration_after s (after s m e) first).state none
     (λ k. first_is_before s c (after s m e) first later act test h k)
+
+-- where c has no entry it has no moment
+none_own : (s : Setting) (c : ℕ) (m : Configuration) (es : List Entry) → own c es ≡ [] → moments s c m es ≡ []
+none_own s c m es h = empty (moments s c m es) (moments_acts s c m es ∙ ap (map (λ e. e.act)) h)
+  where
+    empty : (xs : List Moment) → acts_of xs ≡ [] → xs ≡ []
+    empty [] e = refl
+    empty (x ∷ xs) e = absurd (let z : ⊥ = cc in z)
+
+-- a moment before others is not the last
+not_last : (b : Bool) (x : Moment) (xs : List Moment) (st : State) → state_before_last xs ≡ Some st → state_before_last (cond b (x ∷ xs) xs) ≡ Some st
+not_last false x xs st h = h
+not_last true x [] st h = absurd (let z : ⊥ = cc in z)
+not_last true x (y ∷ ys) st h = h
+
+pub last_is_before : LastIsBefore
+last_is_before s c m [] later act h =
+    let e = eq-eqb c c refl in
+    let n = none_own s c (after s m (by_caller c act)) later h in
+    rw (e, n) refl
+last_is_before s c m (e ∷ first) later act h =
+    not_last (eqb e.caller c) (record { before = m; act = e.act }) (moments s c (after s m e) (first ++ by_caller c act ∷ later)) (configuration_after s (after s m e) first).state
+    (last_is_before s c (after s m e) first later act h)
 
 ---- What c finds
 

@@ -4,7 +4,7 @@
 ghost use Rattle.call_laws.specs.Words.{WordsChangeByStores, CopiesKeep, ZeroesStay, OthersStay};
 ghost use Rattle.call_laws.specs.Blocks.{Taking, Sizing, Resizing, Giving, Dropping, Loading, Storing, PlacingLarge, PlacingInGap, RefusingLarge, RefusingBack, RefusingVs, FindingNone};
 ghost use Rattle.call_laws.specs.Spans.{AllocationPlaces, ReallocationPlaces, PlacingBack, ReservingBack, DroppingBack, PlacingInSpan, ReservingSpan, EndingSpan, Freeing, FreeingBack};
-ghost use Rattle.call_laws.specs.Told.{OwnActsAnswer, FirstIsBefore, FindingStays};
+ghost use Rattle.call_laws.specs.Told.{OwnActsAnswer, OwnActsAreShown, FirstIsBefore, LastIsBefore, FindingStays};
 ghost use Rattle.call_laws.specs.Kept.{ReallocationKeeps, AllocationZeroes, ReallocationZeroes};
 ghost use Rattle.call_laws.specs.Alone.{OpenIsLocked, HandIsExclusive, AllocationHoldsOld, ReallocationHoldsOld, PlacingPicked, FallingIntoGap, RefusingSearched};
 
@@ -206,4 +206,14 @@ pub fn falling_into_gap()
 /// A block that the front end can't serve, and no range fits, is refused.
 pub fn refusing_searched()
     ensures { RefusingSearched }
+{}
+
+/// The shape that the caller's own entries show.
+pub fn own_acts_are_shown()
+    ensures { OwnActsAreShown }
+{}
+
+/// The state before a caller's last entry.
+pub fn last_is_before()
+    ensures { LastIsBefore }
 {}

@@ -1,4 +1,4 @@
-use Rattle.std.proofs.Common.{refl, inl, inr, [], ◌∷◌, false}
+use Rattle.std.proofs.Common.{refl, [], ◌∷◌}
 use Rattle.rand_pcg.specs.Lcg.{state_after}
 use Rattle.heap_model.specs.Search.{draw_of}
 use Rattle.heap_laws.proofs.calls.compacts_the_heap.Goals as goal

@@ -3,7 +3,7 @@ use Rattle.rand_pcg.specs.Lcg.{state_after}
 use Rattle.heap_model.specs.Search.{draw_of}
 use Rattle.heap_model.specs.declared.Act.TheVariants as acts
 use Rattle.heap_model.specs.declared.Layer.TheVariants as layers
-use Rattle.heap_model.specs.State.{Place, Live, InHand}
+use Rattle.heap_model.specs.State.{Live, InHand}
 use Rattle.heap_model.specs.Shape.{moving}
 use Rattle.heap_laws.proofs.calls.front_end_blocks.Goals as goal
 

@@ -1,8 +1,6 @@
-use Rattle.std.proofs.Common.{refl, inl, inr, [], ◌∷◌, false}
-use Rattle.heap_model.specs.declared.Act.TheVariants as acts
+use Rattle.std.proofs.Common.{refl}
 use Rattle.heap_model.specs.declared.Layer.TheVariants as layers
-use Rattle.heap_model.specs.State.{Place, Live, InHand}
-use Rattle.heap_model.specs.Shape.{moving}
+use Rattle.heap_model.specs.State.{Live}
 use Rattle.heap_laws.proofs.calls.grows_nowhere_at_all.Goals as goal
 
 pub returns : goal.returns

@@ -1,7 +1,7 @@
-use Rattle.std.proofs.Common.{refl, inl, inr, [], ◌∷◌, false}
+use Rattle.std.proofs.Common.{refl, inr, [], ◌∷◌, false}
 use Rattle.heap_model.specs.declared.Act.TheVariants as acts
 use Rattle.heap_model.specs.declared.Layer.TheVariants as layers
-use Rattle.heap_model.specs.State.{Place, Live, InHand}
+use Rattle.heap_model.specs.State.{Live, InHand}
 use Rattle.heap_model.specs.Shape.{moving}
 use Rattle.heap_laws.proofs.calls.moves.Goals as goal
 
