@@ -1,0 +1,8 @@
+pub mod Runs
+pub mod Laid
+pub mod Free
+pub mod Rows
+pub mod Sorted
+pub mod Standing
+pub mod Rooms
+pub mod Calls

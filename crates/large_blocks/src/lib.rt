@@ -1,0 +1,255 @@
+//! The large area: blocks of more than 520,192 bytes, each in whole pages of its own.
+//!
+//! The area has up to 4,096 pages of 4,096 bytes and lies behind the segments of the back end. A block takes as many pages as its bytes need,
+//! at the front of the lowest run of free pages that has them. The published description of the segment heap gives such blocks to the system's
+//! virtual memory; the area, its place and the lowest fit are this project's own.
+//!
+//! The table of blocks lies in the value itself, so no call takes memory. It has room for 32, which are never exceeded: each block has 128
+//! pages or more.
+#![tactic(auto)]
+
+#[cfg(test)]
+mod tests;
+
+ghost use Rattle.std.specs.Prelude.{◌≡◌, ℕ, ◌+◌, ◌-◌, ◌*◌, ◌/◌, ◌<◌, ◌≤◌, ◌&&◌, nat_le, nat_lt, IfSome, IfNone, IsSome, is_some, length, [], drop, map, option_map, slice_set, slice_index_or};
+ghost use Rattle.std.specs.Bool.{OnTrue, OnFalse};
+ghost use Rattle.std.specs.List.{find, position};
+ghost use Rattle.heap_model.specs.Geometry.{pages_of};
+ghost use Rattle.heap_model.specs.Limits.{AreValid};
+ghost use Rattle.heap_model.specs.Ranges.{large_place};
+ghost use Rattle.heap_model.specs.State.{change_found, remove_found};
+ghost use Rattle.large_blocks.specs.declared.LargeBlock.{LargeBlock};
+ghost use Rattle.large_blocks.specs.Table.{place_of, places_of, is_at, is_from, block_in, insert_block, with_blocks, with_bytes};
+ghost use Rattle.large_blocks.specs.Effects.{InEach, Makes, TellsStay, placed, dropped, resized};
+ghost use Rattle.large_blocks.specs.Sound.{AreLaid, IsRoom, IsRow, page_behind, reach_at};
+
+use arrayvec::ArrayVec;
+use heap_model::{Block, Layer, Limits, Stands};
+use std::marker::Model;
+
+const PAGE_BYTES: u64 = 4096;
+
+const SEGMENT_PAGES: u64 = 256;
+
+/// The fewest bytes of a large block.
+const LEAST_BYTES: u64 = 520_193;
+
+/// A block has 128 pages or more, and the area at most 4,096.
+const MOST_BLOCKS: usize = 32;
+
+/// A row of the table: the address of a block, and the size that was asked.
+#[derive(Clone, Copy, Debug, Default, PartialEq, Eq)]
+pub struct LargeBlock {
+    pub addr: u64,
+    pub size: u64,
+}
+
+/// The large blocks of a heap. Contracts see its limits and the blocks by address.
+#[derive(Drop)]
+pub struct Large {
+    limits: Limits,
+    blocks: ArrayVec<LargeBlock, MOST_BLOCKS>,
+}
+
+impl Model for Large {
+    ghost use Rattle.large_blocks.specs.Table.{LargeTable};
+    ghost use Rattle.large_blocks.specs.Sound.{IsSound};
+
+    ghost Value = { LargeTable };
+
+    ghost view = { λ l. record { limits = l.limits; blocks = l.blocks.items } };
+
+    ghost invariant = { λ l. IsSound (record { limits = l.limits; blocks = l.blocks.items }) };
+}
+
+impl Stands for Large {
+    ghost use Rattle.large_blocks.specs.Table.{layer_of};
+
+    ghost stands = { layer_of };
+}
+
+impl Large {
+    /// No block, in a heap with these limits.
+    pub fn new(limits: &Limits) -> Large
+        requires { AreValid limits.now }
+        ensures limits { result.limits ≡ limits.now }
+        ensures blocks { result.blocks ≡ [] }
+    {
+        Large {
+            limits: *limits,
+            blocks: ArrayVec::new(),
+        }
+    }
+
+    /// Whether there is a free run for a block of `n` bytes.
+    pub fn fits(&self, n: u64) -> bool
+        ensures { result ≡ is_some (large_place self.now.limits (places_of self.now) (pages_of n)) }
+    {
+        lowest_room(&self.limits, &self.blocks, n.div_ceil(PAGE_BYTES)).is_some()
+    }
+
+    /// Takes the lowest free run for a block of `n` bytes, and answers its address. Where there is none it answers `None`, and
+    /// nothing changes.
+    pub fn take(&mut self, n: u64) -> Option<u64>
+        requires { 520193 ≤ n }
+        ensures place { result ≡ large_place self.old.limits (places_of self.old) (pages_of n) }
+        ensures in_each { InEach self.old (λ o st. result ≡ large_place o.limits st.large (pages_of n)) }
+
+        ensures taken { IfSome result (λ a. self.new ≡ with_blocks self.old (insert_block (record { addr = a; size = n }) self.old.blocks)) }
+        ensures stands { IfSome result (λ a. (c : ℕ) → Makes (placed c a n) self.old self.new) }
+        ensures none { IfNone result (self.new ≡ self.old) }
+    {
+        let room = lowest_room(&self.limits, &self.blocks, n.div_ceil(PAGE_BYTES))?;
+        let block = LargeBlock {
+            addr: room.addr,
+            size: n,
+        };
+        self.blocks.insert(room.index, block);
+        Some(room.addr)
+    }
+
+    /// The size that was asked for the block at an address, if one starts there.
+    pub fn find(&self, addr: u64) -> Option<u64>
+        ensures { result ≡ option_map (λ b. b.size) (find (is_at addr) self.now.blocks) }
+    {
+        self.blocks.iter().find(|block| block.addr == addr).map(|block| block.size)
+    }
+
+    /// Gives back the block at an address.
+    pub fn give(&mut self, addr: u64)
+        requires { IsSome (find (is_at addr) self.old.blocks) }
+        ensures given { self.new ≡ with_blocks self.old (remove_found (is_at addr) self.old.blocks) }
+        ensures stands { (c : ℕ) → Makes (dropped c addr) self.old self.new }
+    {
+        let index = row_at(&self.blocks, addr);
+        self.blocks.remove(index);
+    }
+
+    /// Makes the block at an address `n` bytes long where it stands, and answers `true`, if `n` is a size of this layer and the free
+    /// pages right behind the block let it be so long. Else it answers `false`, and nothing changes.
+    pub fn resize_in_place(&mut self, addr: u64, n: u64) -> bool
+        requires { IsSome (find (is_at addr) self.old.blocks) }
+        ensures stays { InEach self.old (λ o st. TellsStay o st addr n result) }
+        ensures resized { OnTrue result (self.new ≡ with_blocks self.old (change_found (is_at addr) (with_bytes n) self.old.blocks)) }
+        ensures stands { OnTrue result (Makes (resized addr n) self.old self.new) }
+        ensures none { OnFalse result (self.new ≡ self.old) }
+    {
+        let index = row_at(&self.blocks, addr);
+        if !lets_stay(&self.limits, &self.blocks, index, n) {
+            return false;
+        }
+        set_size(&mut self.blocks, index, n);
+        true
+    }
+
+    /// The first block at or after an address.
+    pub fn next_block(&self, from: u64) -> Option<Block>
+        ensures { result ≡ option_map block_in (find (is_from from) self.now.blocks) }
+    {
+        self.blocks.iter().find(|block| block.addr >= from).map(|block| Block {
+            addr: block.addr,
+            size: block.size,
+            layer: Layer::Large,
+        })
+    }
+}
+
+/// Where a block goes: its row and its address.
+#[derive(Drop)]
+struct Room {
+    index: usize,
+    addr: u64,
+}
+
+/// The lowest free run of so many pages.
+fn lowest_room(limits: &Limits, blocks: &[LargeBlock], pages: u64) -> Option<Room>
+    requires valid { AreValid limits.now }
+    requires laid { AreLaid limits.now 0 blocks.now }
+    ensures place { option_map (λ r. r.addr) result ≡ large_place limits.now (map place_of blocks.now) pages }
+    ensures room { IfSome result (λ r. IsRoom limits.now blocks.now pages r.index r.addr) }
+{
+    let mut addr = PAGE_BYTES * (SEGMENT_PAGES * u64::from(limits.segments));
+    for (index, block) in blocks.iter().enumerate() {
+        if holds(addr, block.addr, pages) {
+            return Some(Room { index, addr });
+        }
+        addr = block.addr + PAGE_BYTES * block.size.div_ceil(PAGE_BYTES);
+    }
+    if holds(addr, area_end(limits), pages) {
+        Some(Room {
+            index: blocks.len(),
+            addr,
+        })
+    } else {
+        None
+    }
+}
+
+/// Whether so many pages, and at least one, lie between two addresses.
+fn holds(from: u64, to: u64, pages: u64) -> bool
+    ensures { result ≡ (nat_lt from to && nat_le pages ((to - from) / 4096)) }
+{
+    from < to && pages <= (to - from) / PAGE_BYTES
+}
+
+/// The address right behind the large area.
+fn area_end(limits: &Limits) -> u64
+    requires { AreValid limits.now }
+    ensures { result ≡ 4096 * (256 * limits.now.segments + limits.now.large_pages) }
+{
+    PAGE_BYTES * (SEGMENT_PAGES * u64::from(limits.segments) + u64::from(limits.large_pages))
+}
+
+/// The row of the block at an address.
+fn row_at(blocks: &[LargeBlock], addr: u64) -> usize
+    requires { IsSome (find (is_at addr) blocks.now) }
+    ensures { IsRow blocks.now addr result }
+{
+    position_of(blocks, addr).unwrap()
+}
+
+fn position_of(blocks: &[LargeBlock], addr: u64) -> Option<usize>
+    ensures { result ≡ position (is_at addr) blocks.now }
+{
+    blocks.iter().position(|block| block.addr == addr)
+}
+
+fn set_size(blocks: &mut ArrayVec<LargeBlock, MOST_BLOCKS>, index: usize, n: u64)
+    requires { index < length blocks.old.items }
+    ensures { (d : LargeBlock) → blocks.new.items ≡ slice_set blocks.old.items index (with_bytes n (slice_index_or blocks.old.items index d)) }
+{
+    blocks[index].size = n;
+}
+
+/// Whether the block of a row can have so many bytes where it stands.
+fn lets_stay(limits: &Limits, blocks: &[LargeBlock], index: usize, n: u64) -> bool
+    requires valid { AreValid limits.now }
+    requires laid { AreLaid limits.now 0 blocks.now }
+    requires inside { index < length blocks.now }
+    ensures { result ≡ (nat_le 520193 n && nat_le (pages_of n) (reach_at limits.now (drop index blocks.now))) }
+{
+    n >= LEAST_BYTES && n.div_ceil(PAGE_BYTES) <= reach(limits, blocks, index)
+}
+
+/// The pages of the block of a row and of the free run right behind it.
+fn reach(limits: &Limits, blocks: &[LargeBlock], index: usize) -> u64
+    requires valid { AreValid limits.now }
+    requires laid { AreLaid limits.now 0 blocks.now }
+    requires inside { index < length blocks.now }
+    ensures { result ≡ reach_at limits.now (drop index blocks.now) }
+{
+    (end_behind(limits, blocks, index) - blocks[index].addr) / PAGE_BYTES
+}
+
+/// Where the next block begins behind a row, or the end of the area.
+fn end_behind(limits: &Limits, blocks: &[LargeBlock], index: usize) -> u64
+    requires valid { AreValid limits.now }
+    requires laid { AreLaid limits.now 0 blocks.now }
+    requires inside { index < length blocks.now }
+    ensures { result ≡ 4096 * (256 * limits.now.segments + page_behind limits.now (drop (index + 1) blocks.now)) }
+{
+    match blocks.get(index + 1) {
+        Some(next) => next.addr,
+        None => area_end(limits),
+    }
+}
