@@ -1,23 +1,24 @@
 -- What each call leaves: the table that it opened is the old one.
 use Rattle.std.proofs.Common.{◌≡◌, ◌⊎◌, ℕ, suc, ◌+◌, ◌*◌, ◌<◌, ◌≤◌, Bool, true, false, ◌&&◌, leb, List, [], ◌∷◌, ◌++◌, length, take, drop, set, get_or, map, Option, Some, None, refl, sym, ap, ◌∙◌, subst, arith, option_map}
 use Rattle.std.specs.Prelude.{insert, remove}
-use Rattle.std.specs.List.{refill}
+use Rattle.std.specs.List.{find, refill}
 use Rattle.std.proofs.Math.Seq.{drop-cons, take-length}
 use Rattle.std.proofs.Math.ListN.{drop_of_length-le}
 use Rattle.std.proofs.lemmas.Bool.{and_parts, leb-true}
 use Rattle.std.proofs.lemmas.List.{length-append, append-nil, length-set, take-append-drop}
+use Rattle.heap_model.specs.declared.Block.{Block}
 use Rattle.heap_model.specs.declared.Limits.{Limits}
 use Rattle.heap_model.specs.Limits.{AreValid}
 use Rattle.heap_model.specs.Geometry.{pages_of}
 use Rattle.heap_model.specs.State.{change_found, remove_found}
 use Rattle.heap_model.specs.Ranges.{large_place}
 use Rattle.large_blocks.specs.declared.LargeBlock.{LargeBlock}
-use Rattle.large_blocks.specs.Table.{LargeTable, place_of, places_of, is_at, insert_block, with_blocks, with_bytes}
-use Rattle.large_blocks.specs.Effects.{InEach, Makes, TellsStay, placed, dropped, resized}
+use Rattle.large_blocks.specs.Table.{LargeTable, place_of, places_of, is_at, is_from, block_in, insert_block, with_blocks, with_bytes}
+use Rattle.large_blocks.specs.Effects.{InEach, Makes, TellsStay, size_at, block_from, placed, dropped, resized}
 use Rattle.large_blocks.specs.Sound.{AreLaid, IsSound, IsRoom, IsRow, reach_at}
 use Rattle.large_blocks.proofs.Laid.{laid_few}
 use Rattle.large_blocks.proofs.Rows.{row_inside, row_removed, row_changed, row_item, row_inserted, removed_laid, changed_laid}
-use Rattle.large_blocks.proofs.Standing.{takes, gives, resizes, stays, same_place}
+use Rattle.large_blocks.proofs.Standing.{takes, gives, resizes, stays, same_place, same_size, same_block}
 
 ---- A block given back
 
@@ -144,3 +145,15 @@ module _ (inner : LargeTable) (bs : List LargeBlock) (addr n index : ℕ) (sound
   pub has_kept : (old : LargeTable) (ds : List LargeBlock) → inner ≡ old → ds ≡ inner.blocks → (leb 520193 n && leb (pages_of n) (reach_at inner.limits (drop index ds))) ≡ false → InEach old (λ o st. TellsStay o st addr n false)
   has_kept old ds e h t = subst (λ (t : LargeTable). InEach t (λ o st. TellsStay o st addr n false)) e
       (stays inner addr index n sound.laid r false (subst (λ (xs : List LargeBlock). (leb 520193 n && leb (pages_of n) (reach_at inner.limits (drop index xs))) ≡ false) h t))
+
+---- Look-ups
+
+pub is_size : (inner old : LargeTable) (bs : List LargeBlock) (addr : ℕ) (answer : Option ℕ) → inner ≡ old → IsSound inner → bs ≡ inner.blocks → answer ≡ option_map (λ b. b.size) (find (is_at addr) bs) → InEach old (λ o st. answer ≡ size_at addr st.large)
+is_size inner old bs addr answer e sound f a =
+    subst (λ (t : LargeTable). InEach t (λ o st. answer ≡ size_at addr st.large)) e
+    (λ o st h. a ∙ ap (λ (cs : List LargeBlock). option_map (λ (b : LargeBlock). b.size) (find (is_at addr) cs)) f ∙ same_size inner sound.laid addr o st h)
+
+pub is_block : (inner old : LargeTable) (bs : List LargeBlock) (from : ℕ) (answer : Option Block) → inner ≡ old → bs ≡ inner.blocks → answer ≡ option_map block_in (find (is_from from) bs) → InEach old (λ o st. answer ≡ block_from from st.large)
+is_block inner old bs from answer e f a =
+    subst (λ (t : LargeTable). InEach t (λ o st. answer ≡ block_from from st.large)) e
+    (λ o st h. a ∙ ap (λ (cs : List LargeBlock). option_map block_in (find (is_from from) cs)) f ∙ same_block inner from o st h)

@@ -1,21 +1,23 @@
 -- What the table tells of each state that it stands for, and what it stands for behind a change.
 use Rattle.std.proofs.Common.{◌≡◌, ◌⊎◌, ℕ, ◌+◌, ◌-◌, ◌*◌, ◌/◌, ◌<◌, ◌≤◌, Bool, true, false, ◌&&◌, ◌||◌, not, List, [], ◌∷◌, Option, Some, None, map, drop, refl, sym, ap, ◌∙◌, subst, arith, eqb, leb, cond, inl, inr, option_map}
+use Rattle.std.specs.Prelude.{filter_map, option_and_then}
 use Rattle.std.specs.List.{find, list_any}
 use Rattle.std.proofs.lemmas.Bool.{cases_Bool, cases_lt, eq-eqb, eqb-true, ne_eqb, le-leb, lt-leb, and_parts}
+use Rattle.heap_model.specs.declared.Block.{Block}
 use Rattle.heap_model.specs.declared.Limits.{Limits}
 use Rattle.heap_model.specs.declared.Layer.TheVariants as layers
 use Rattle.heap_model.specs.declared.Opening.{Opening}
 use Rattle.heap_model.specs.Geometry.{route_of, is_huge, pages_of}
 use Rattle.heap_model.specs.Runs.{Run, fitting, runs}
-use Rattle.heap_model.specs.State.{State, Place, Status, Live, InHand, by_address, has_address, is_live_at, is_hand_at, is_live, change_found, remove_found, insert_place}
+use Rattle.heap_model.specs.State.{State, Place, Status, Live, InHand, live_size, block_of, by_address, has_address, is_live_at, is_hand_at, is_live, change_found, remove_found, insert_place}
 use Rattle.heap_model.specs.Ranges.{large_runs, large_place, is_clear_page, large_start, in_place, lowest}
 use Rattle.heap_model.specs.Stay.{run_from, reach, lets_stay}
 use Rattle.heap_model.specs.Legal.{with_status, with_places, resize_place}
 use Rattle.heap_model.specs.Layers.{StandsForLarge}
 use Rattle.serial_laws.proofs.Sorted.{OnlyOne, any_sorted, found_sorted, removed_sorted}
 use Rattle.large_blocks.specs.declared.LargeBlock.{LargeBlock}
-use Rattle.large_blocks.specs.Table.{LargeTable, place_of, places_of, layer_of, is_at, insert_block, with_blocks, with_bytes}
-use Rattle.large_blocks.specs.Effects.{InEach, Makes, TellsStay, placed, dropped, resized}
+use Rattle.large_blocks.specs.Table.{LargeTable, place_of, places_of, layer_of, is_at, is_from, block_in, insert_block, with_blocks, with_bytes}
+use Rattle.large_blocks.specs.Effects.{InEach, Makes, TellsStay, size_at, block_from, placed, dropped, resized}
 use Rattle.large_blocks.specs.Sound.{page_of, end_of, IsLaid, AreLaid, IsRow, page_behind, reach_at}
 use Rattle.large_blocks.proofs.Runs.{runs_same}
 use Rattle.large_blocks.proofs.Laid.{some_pages, laid_at, behind_all}
@@ -168,7 +170,7 @@ module _ (t : LargeTable) (o : Opening) (st : State) (h : StandsForLarge o st (l
   same_runs =
       ap (λ (l : Limits). large_runs l st.large) (sym h.limits)
       ∙ runs_same (is_clear_page t.limits st.large) (is_clear_page t.limits (places_of t)) 0 t.limits.large_pages (λ k u.
-          ap not (sym (any_sorted (in_place (large_start t.limits + 256 * k)) st.large) ∙ ap (list_any (in_place (large_start t.limits + 256 * k))) (sym h.part)))
+      ap not (sym (any_sorted (in_place (large_start t.limits + 256 * k)) st.large) ∙ ap (list_any (in_place (large_start t.limits + 256 * k))) (sym h.part)))
 
   pub same_place : (n : ℕ) → large_place t.limits (places_of t) n ≡ large_place o.limits st.large n
   same_place n =
@@ -219,3 +221,34 @@ module _ (t : LargeTable) (o : Opening) (st : State) (h : StandsForLarge o st (l
 -- the answer is that of the definitions
 pub stays : (t : LargeTable) (addr index n : ℕ) → AreLaid t.limits 0 t.blocks → IsRow t.blocks addr index → (answer : Bool) → (leb 520193 n && leb (pages_of n) (reach_at t.limits (drop index t.blocks))) ≡ answer → InEach t (λ o st. TellsStay o st addr n answer)
 stays t addr index n laid r answer e o st h = tells t o st h laid addr index r n answer e
+
+---- What a look-up answers
+
+live_size_is : (addr : ℕ) (bs : List LargeBlock) → option_and_then (λ (p : Place). live_size p.status) (find (is_live_at addr) (map place_of bs)) ≡ option_map (λ (b : LargeBlock). b.size) (find (is_at addr) bs)
+live_size_is addr [] = refl
+live_size_is addr (b ∷ bs) = let t = and_true (eqb b.addr addr) in elim (cases_Bool (eqb b.addr addr)) [
+  | inl e ↦ rw (t, e) refl
+  | inr e ↦ rw (t, e) (live_size_is addr bs)
+]
+
+pub same_size : (t : LargeTable) → AreLaid t.limits 0 t.blocks → (addr : ℕ) → InEach t (λ o st. option_map (λ b. b.size) (find (is_at addr) t.blocks) ≡ size_at addr st.large)
+same_size t laid addr o st h =
+    sym (live_size_is addr t.blocks)
+    ∙ ap (λ (ps : List Place). option_and_then (λ (p : Place). live_size p.status) (find (is_live_at addr) ps)) h.part
+    ∙ ap (option_and_then (λ (p : Place). live_size p.status)) (found_sorted (is_live_at addr) st.large (only t t laid addr o st h (is_live_at addr) (at_live addr)))
+
+blocks_are : (bs : List LargeBlock) → filter_map block_of (map place_of bs) ≡ map block_in bs
+blocks_are [] = refl
+blocks_are (b ∷ bs) = ap (λ (cs : List Block). block_in b ∷ cs) (blocks_are bs)
+
+found_block : (from : ℕ) (bs : List LargeBlock) → find (λ (b : Block). leb from b.addr) (map block_in bs) ≡ option_map block_in (find (is_from from) bs)
+found_block from [] = refl
+found_block from (b ∷ bs) = elim (cases_Bool (leb from b.addr)) [
+  | inl e ↦ rw e refl
+  | inr e ↦ rw e (found_block from bs)
+]
+
+pub same_block : (t : LargeTable) (from : ℕ) → InEach t (λ o st. option_map block_in (find (is_from from) t.blocks) ≡ block_from from st.large)
+same_block t from o st h =
+    sym (found_block from t.blocks)
+    ∙ ap (find (λ (b : Block). leb from b.addr)) (sym (blocks_are t.blocks) ∙ ap (filter_map block_of) h.part)

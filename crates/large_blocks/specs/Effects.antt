@@ -1,10 +1,11 @@
 -- What the calls answer and change, in each state that the table stands for.
-use Rattle.std.specs.Prelude.{◌≡◌, ℕ, ◌*◌, Bool, List, Option, Some, option_map}
+use Rattle.std.specs.Prelude.{◌≡◌, ℕ, ◌*◌, Bool, nat_le, List, filter_map, Option, Some, option_and_then}
 use Rattle.std.specs.List.{find}
+use Rattle.heap_model.specs.declared.Block.{Block}
 use Rattle.heap_model.specs.declared.Layer.TheVariants as layers
 use Rattle.heap_model.specs.declared.Opening.{Opening}
 use Rattle.heap_model.specs.Geometry.{pages_of}
-use Rattle.heap_model.specs.State.{State, Place, Live, InHand, is_live_at, is_hand_at, add_place, change_found, remove_found, has_address, block_of}
+use Rattle.heap_model.specs.State.{State, Place, Live, InHand, live_size, is_live_at, is_hand_at, has_address, add_place, change_found, remove_found, by_address, block_of}
 use Rattle.heap_model.specs.Stay.{lets_stay}
 use Rattle.heap_model.specs.Legal.{with_places, with_status, resize_place}
 use Rattle.heap_model.specs.Layers.{StandsForLarge}
@@ -13,6 +14,14 @@ use Rattle.large_blocks.specs.Table.{LargeTable, layer_of}
 -- so it is in each state that the table stands for
 abbrev pub InEach : LargeTable → (Opening → State → Type 0) → Type 0
 InEach t P = (o : Opening) (st : State) → StandsForLarge o st (layer_of t) → P o st
+
+-- the size of the live block at the address
+abbrev pub size_at : ℕ → List Place → Option ℕ
+size_at addr ps = option_and_then (λ p. live_size p.status) (find (is_live_at addr) ps)
+
+-- the first live block at or after the address
+abbrev pub block_from : ℕ → List Place → Option Block
+block_from addr ps = find (λ b. nat_le addr b.addr) (filter_map block_of (by_address ps))
 
 -- The large places as entries of a caller leave them: a Place and a Give, a Take and a Drop, a Resize.
 abbrev pub placed : ℕ → ℕ → ℕ → List Place → List Place

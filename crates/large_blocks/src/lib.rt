@@ -17,10 +17,12 @@ ghost use Rattle.std.specs.List.{find, position};
 ghost use Rattle.heap_model.specs.Geometry.{pages_of};
 ghost use Rattle.heap_model.specs.Limits.{AreValid};
 ghost use Rattle.heap_model.specs.Ranges.{large_place};
-ghost use Rattle.heap_model.specs.State.{change_found, remove_found};
+ghost use Rattle.heap_model.specs.State.{opening, change_found, remove_found};
+ghost use Rattle.heap_model.specs.Layers.{StandsForLarge};
+ghost use Rattle.heap_model.specs.declared.Opening.{Opening};
 ghost use Rattle.large_blocks.specs.declared.LargeBlock.{LargeBlock};
-ghost use Rattle.large_blocks.specs.Table.{place_of, places_of, is_at, is_from, block_in, insert_block, with_blocks, with_bytes};
-ghost use Rattle.large_blocks.specs.Effects.{InEach, Makes, TellsStay, placed, dropped, resized};
+ghost use Rattle.large_blocks.specs.Table.{place_of, places_of, layer_of, is_at, is_from, block_in, insert_block, with_blocks, with_bytes};
+ghost use Rattle.large_blocks.specs.Effects.{InEach, Makes, TellsStay, size_at, block_from, placed, dropped, resized};
 ghost use Rattle.large_blocks.specs.Sound.{AreLaid, IsRoom, IsRow, page_behind, reach_at};
 
 use arrayvec::ArrayVec;
@@ -74,6 +76,7 @@ impl Large {
         requires { AreValid limits.now }
         ensures limits { result.limits ≡ limits.now }
         ensures blocks { result.blocks ≡ [] }
+        ensures stands { (o : Opening) → o.limits ≡ limits.now → StandsForLarge o opening (layer_of result) }
     {
         Large {
             limits: *limits,
@@ -83,7 +86,8 @@ impl Large {
 
     /// Whether there is a free run for a block of `n` bytes.
     pub fn fits(&self, n: u64) -> bool
-        ensures { result ≡ is_some (large_place self.now.limits (places_of self.now) (pages_of n)) }
+        ensures fits { result ≡ is_some (large_place self.now.limits (places_of self.now) (pages_of n)) }
+        ensures in_each { InEach self.now (λ o st. result ≡ is_some (large_place o.limits st.large (pages_of n))) }
     {
         lowest_room(&self.limits, &self.blocks, n.div_ceil(PAGE_BYTES)).is_some()
     }
@@ -110,9 +114,10 @@ impl Large {
 
     /// The size that was asked for the block at an address, if one starts there.
     pub fn find(&self, addr: u64) -> Option<u64>
-        ensures { result ≡ option_map (λ b. b.size) (find (is_at addr) self.now.blocks) }
+        ensures found { result ≡ option_map (λ b. b.size) (find (is_at addr) self.now.blocks) }
+        ensures in_each { InEach self.now (λ o st. result ≡ size_at addr st.large) }
     {
-        self.blocks.iter().find(|block| block.addr == addr).map(|block| block.size)
+        size_of_block_at(&self.blocks, addr)
     }
 
     /// Gives back the block at an address.
@@ -144,13 +149,10 @@ impl Large {
 
     /// The first block at or after an address.
     pub fn next_block(&self, from: u64) -> Option<Block>
-        ensures { result ≡ option_map block_in (find (is_from from) self.now.blocks) }
+        ensures found { result ≡ option_map block_in (find (is_from from) self.now.blocks) }
+        ensures in_each { InEach self.now (λ o st. result ≡ block_from from st.large) }
     {
-        self.blocks.iter().find(|block| block.addr >= from).map(|block| Block {
-            addr: block.addr,
-            size: block.size,
-            layer: Layer::Large,
-        })
+        first_from(&self.blocks, from)
     }
 }
 
@@ -198,6 +200,28 @@ fn area_end(limits: &Limits) -> u64
     ensures { result ≡ 4096 * (256 * limits.now.segments + limits.now.large_pages) }
 {
     PAGE_BYTES * (SEGMENT_PAGES * u64::from(limits.segments) + u64::from(limits.large_pages))
+}
+
+fn size_of_block_at(blocks: &[LargeBlock], addr: u64) -> Option<u64>
+    ensures { result ≡ option_map (λ b. b.size) (find (is_at addr) blocks.now) }
+{
+    blocks
+        .iter()
+        .find(|block| block.addr == addr)
+        .map(|block| block.size)
+}
+
+fn first_from(blocks: &[LargeBlock], from: u64) -> Option<Block>
+    ensures { result ≡ option_map block_in (find (is_from from) blocks.now) }
+{
+    blocks
+        .iter()
+        .find(|block| block.addr >= from)
+        .map(|block| Block {
+            addr: block.addr,
+            size: block.size,
+            layer: Layer::Large,
+        })
 }
 
 /// The row of the block at an address.

@@ -36,8 +36,8 @@ pub returns-then-holds-2-clause-room : goal.returns-then-holds-2-clause-room
 returns-then-holds-2-clause-room c =
     last_room c.args.limits.now c.args.blocks.now c.args.pages c.loop-index.index c.loop-index.addr c.requires.laid c.loop-index.invariant c.loop-index-test.false
     (room_is_here c.args.limits.now c.args.blocks.now c.args.pages c.loop-index.index c.loop-index.addr c.requires.laid c.loop-index.invariant c.area_end.result
-      (last_page c.args.limits.now c.args.blocks.now c.args.pages c.loop-index.index c.loop-index.addr c.requires.laid c.loop-index.invariant c.loop-index-test.false c.area_end.result c.area_end.ensures)
-      (sym c.holds-2.ensures ∙ c.if-holds-2.true))
+    (last_page c.args.limits.now c.args.blocks.now c.args.pages c.loop-index.index c.loop-index.addr c.requires.laid c.loop-index.invariant c.loop-index-test.false c.area_end.result c.area_end.ensures)
+    (sym c.holds-2.ensures ∙ c.if-holds-2.true))
 
 pub returns-else-holds-2-clause-place : goal.returns-else-holds-2-clause-place
 returns-else-holds-2-clause-place c =
