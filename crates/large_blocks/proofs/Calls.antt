@@ -1,5 +1,5 @@
 -- What each call leaves: the table that it opened is the old one.
-use Rattle.std.proofs.Common.{◌≡◌, ◌⊎◌, ℕ, suc, ◌+◌, ◌*◌, ◌<◌, ◌≤◌, Bool, true, false, ◌&&◌, leb, List, [], ◌∷◌, ◌++◌, length, take, drop, set, get_or, map, Option, Some, None, refl, sym, ap, ◌∙◌, subst, arith, option_map}
+use Rattle.std.proofs.Common.{◌≡◌, ℕ, suc, ◌<◌, ◌≤◌, true, false, ◌&&◌, leb, List, [], ◌∷◌, ◌++◌, length, take, drop, set, get_or, map, Option, sym, ap, ◌∙◌, subst, arith, option_map}
 use Rattle.std.specs.Prelude.{insert, remove}
 use Rattle.std.specs.List.{find, refill}
 use Rattle.std.proofs.Math.Seq.{drop-cons, take-length}
@@ -7,14 +7,12 @@ use Rattle.std.proofs.Math.ListN.{drop_of_length-le}
 use Rattle.std.proofs.lemmas.Bool.{and_parts, leb-true}
 use Rattle.std.proofs.lemmas.List.{length-append, append-nil, length-set, take-append-drop}
 use Rattle.heap_model.specs.declared.Block.{Block}
-use Rattle.heap_model.specs.declared.Limits.{Limits}
-use Rattle.heap_model.specs.Limits.{AreValid}
 use Rattle.heap_model.specs.Geometry.{pages_of}
 use Rattle.heap_model.specs.State.{change_found, remove_found}
 use Rattle.heap_model.specs.Ranges.{large_place}
 use Rattle.large_blocks.specs.declared.LargeBlock.{LargeBlock}
 use Rattle.large_blocks.specs.Table.{LargeTable, place_of, places_of, is_at, is_from, block_in, insert_block, with_blocks, with_bytes}
-use Rattle.large_blocks.specs.Effects.{InEach, Makes, TellsStay, size_at, block_from, placed, dropped, resized}
+use Rattle.large_blocks.specs.Effects.{InEach, TellsStay, Becomes, size_at, block_from, with_block, without_block, with_length}
 use Rattle.large_blocks.specs.Sound.{AreLaid, IsSound, IsRoom, IsRow, reach_at}
 use Rattle.large_blocks.proofs.Laid.{laid_few}
 use Rattle.large_blocks.proofs.Rows.{row_inside, row_removed, row_changed, row_item, row_inserted, removed_laid, changed_laid}
@@ -25,13 +23,13 @@ use Rattle.large_blocks.proofs.Standing.{takes, gives, resizes, stays, same_plac
 pub record HasGiven (old new : LargeTable) (addr : ℕ) : Type 0 where
   pub sound : IsSound new
   pub given : new ≡ with_blocks old (remove_found (is_at addr) old.blocks)
-  pub stands : (c : ℕ) → Makes (dropped c addr) old new
+  pub stands : Becomes old new (λ ps. without_block ps addr)
 
 pub has_given : (inner old new : LargeTable) (bs : List LargeBlock) (addr index : ℕ) → inner ≡ old → IsSound inner → bs ≡ inner.blocks → IsRow bs addr index → new ≡ with_blocks inner (remove inner.blocks index) → HasGiven old new addr
 has_given inner old new bs addr index e sound f row n = subst (λ (t : LargeTable). HasGiven t new addr) e (record {
   sound = subst IsSound (sym n) (record { limits = sound.limits; laid = removed_laid inner.limits inner.blocks addr index r sound.laid });
   given = given;
-  stands = gives inner new sound.laid addr given;
+  stands = gives inner sound.laid addr new given;
 })
   where
     r : IsRow inner.blocks addr index
@@ -55,7 +53,7 @@ still_inside inner bs index f i = subst (λ (cs : List LargeBlock). index < leng
 pub record HasTaken (old new : LargeTable) (addr n : ℕ) : Type 0 where
   pub sound : IsSound new
   pub taken : new ≡ with_blocks old (insert_block (record { addr = addr; size = n }) old.blocks)
-  pub stands : (c : ℕ) → Makes (placed c addr n) old new
+  pub stands : Becomes old new (λ ps. with_block ps addr n)
 
 -- a room of the table for so many pages
 module _ (inner : LargeTable) (bs : List LargeBlock) (n pages index addr : ℕ) (sound : IsSound inner) (f : bs ≡ inner.blocks) (huge : 520193 ≤ n) (room : IsRoom inner.limits bs pages index addr) (p : pages_of n ≡ pages) where
@@ -98,7 +96,7 @@ pub record HasResized (old new : LargeTable) (addr n : ℕ) : Type 0 where
   pub sound : IsSound new
   pub stays : InEach old (λ o st. TellsStay o st addr n true)
   pub changed : new ≡ with_blocks old (change_found (is_at addr) (with_bytes n) old.blocks)
-  pub makes : Makes (resized addr n) old new
+  pub stands : Becomes old new (λ ps. with_length ps addr n)
 
 -- a write through a slice of the whole list
 refill_whole : (xs ws : List LargeBlock) → length ws ≡ length xs → refill (length xs) xs ws ≡ ws
@@ -127,7 +125,7 @@ module _ (inner : LargeTable) (bs : List LargeBlock) (addr n index : ℕ) (sound
     sound = subst IsSound (sym new_is) (record { limits = sound.limits; laid = changed_laid inner.limits inner.blocks addr index r sound.laid n (leb-true 520193 n fits.0) (leb-true (pages_of n) (reach_at inner.limits (drop index inner.blocks)) fits.1) });
     stays = stays inner addr index n sound.laid r true lets;
     changed = changed;
-    makes = resizes inner (with_blocks inner items) sound.laid addr n changed;
+    stands = resizes inner sound.laid addr (with_blocks inner items) n changed;
   })
     where
       lets : (leb 520193 n && leb (pages_of n) (reach_at inner.limits (drop index inner.blocks))) ≡ true

@@ -1,19 +1,18 @@
 -- The free runs of the large area lie between its blocks.
-use Rattle.std.proofs.Common.{◌≡◌, ◌⊎◌, ℕ, zero, suc, ◌+◌, ◌-◌, ◌*◌, ◌/◌, ◌<◌, ◌≤◌, Bool, true, false, ◌&&◌, ◌||◌, not, List, [], ◌∷◌, ◌++◌, Option, Some, None, map, refl, sym, ap, ◌∙◌, subst, arith, eqb, leb, ltb, cond, inl, inr, option_map}
+use Rattle.std.proofs.Common.{◌≡◌, ◌⊎◌, ℕ, zero, suc, ◌+◌, ◌-◌, ◌*◌, ◌/◌, ◌<◌, ◌≤◌, Bool, true, false, ◌&&◌, List, [], ◌∷◌, ◌++◌, Option, None, map, refl, sym, ap, ◌∙◌, subst, arith, eqb, leb, ltb, cond, inl, inr, option_map}
 use Rattle.std.specs.Prelude.{unwrap_or}
-use Rattle.std.specs.List.{find, list_any}
-use Rattle.std.proofs.lemmas.Bool.{cases_Bool, cases_lt, ne_eqb, eq-eqb, le-leb, lt-leb, lt-ltb, le-ltb, ltb-true, ltb-false}
+use Rattle.std.specs.List.{find}
+use Rattle.std.proofs.lemmas.Bool.{cases_Bool, cases_lt, ne_eqb, eq-eqb, le-leb, lt-leb, lt-ltb, le-ltb, ltb-false}
 use Rattle.heap_model.specs.declared.Limits.{Limits}
 use Rattle.heap_model.specs.Geometry.{pages_of}
 use Rattle.heap_model.specs.Runs.{Run, runs}
-use Rattle.heap_model.specs.State.{Place}
 use Rattle.heap_model.specs.Ranges.{in_place, is_clear_page, large_runs, large_start}
 use Rattle.heap_model.specs.Stay.{run_from}
 use Rattle.large_blocks.specs.declared.LargeBlock.{LargeBlock}
 use Rattle.large_blocks.specs.Table.{place_of}
 use Rattle.large_blocks.specs.Sound.{page_of, end_of, IsLaid, AreLaid, page_behind}
-use Rattle.large_blocks.proofs.Runs.{runs_same, runs_over_false, runs_over_true}
-use Rattle.large_blocks.proofs.Laid.{some_pages, laid_at, behind_all, behind_inside, laid_behind}
+use Rattle.large_blocks.proofs.Runs.{runs_over_false, runs_over_true}
+use Rattle.large_blocks.proofs.Laid.{some_pages, laid_at, behind_all}
 
 -- the pages between two, in front of other runs
 abbrev pub between : ℕ → ℕ → List Run → List Run

@@ -1,5 +1,5 @@
 -- Blocks that are laid in the area, each behind the one before.
-use Rattle.std.proofs.Common.{◌≡◌, ℕ, suc, ◌+◌, ◌-◌, ◌*◌, ◌/◌, ◌<◌, ◌≤◌, List, [], ◌∷◌, ◌++◌, length, refl, sym, subst, arith}
+use Rattle.std.proofs.Common.{ℕ, ◌+◌, ◌*◌, ◌≤◌, List, [], ◌∷◌, ◌++◌, length, arith}
 use Rattle.heap_model.specs.declared.Limits.{Limits}
 use Rattle.heap_model.specs.Geometry.{pages_of}
 use Rattle.large_blocks.specs.declared.LargeBlock.{LargeBlock}

@@ -2,7 +2,6 @@ pub mod Runs
 pub mod Laid
 pub mod Free
 pub mod Rows
-pub mod Sorted
 pub mod Standing
 pub mod Rooms
 pub mod Calls

@@ -1,11 +1,10 @@
 -- The walk over the blocks that finds the lowest free run.
-use Rattle.std.proofs.Common.{◌≡◌, ◌⊎◌, ℕ, zero, suc, ◌+◌, ◌-◌, ◌*◌, ◌/◌, ◌<◌, ◌≤◌, Bool, true, false, ◌&&◌, List, [], ◌∷◌, ◌++◌, length, take, drop, get_or, map, Option, Some, None, refl, sym, ap, ◌∙◌, subst, arith, leb, ltb, cond, inl, inr, option_map, add-one}
+use Rattle.std.proofs.Common.{◌≡◌, ℕ, zero, suc, ◌+◌, ◌-◌, ◌*◌, ◌/◌, ◌<◌, ◌≤◌, true, false, ◌&&◌, List, [], ◌∷◌, ◌++◌, length, take, drop, get_or, map, Option, Some, None, refl, sym, ap, ◌∙◌, subst, arith, leb, ltb, inl, inr, option_map, add-one}
 use Rattle.std.proofs.Math.Seq.{drop-cons}
 use Rattle.std.proofs.Math.ListN.{drop_of_length-le}
 use Rattle.std.proofs.lemmas.List.{take_more, append_assoc}
-use Rattle.std.specs.Prelude.{insert}
 use Rattle.std.specs.Int.{div_ceil}
-use Rattle.std.proofs.lemmas.Bool.{cases_Bool, cases_lt, le-leb, lt-leb, lt-ltb, le-ltb, ltb-true, ltb-false, leb-true, leb-false, and_parts}
+use Rattle.std.proofs.lemmas.Bool.{cases_Bool, cases_lt, lt-ltb, le-ltb, ltb-true, ltb-false, leb-true, and_parts}
 use Rattle.heap_model.specs.declared.Limits.{Limits}
 use Rattle.heap_model.specs.Geometry.{pages_of}
 use Rattle.heap_model.specs.Runs.{Run, fitting}
@@ -13,7 +12,7 @@ use Rattle.heap_model.specs.Ranges.{large_place, large_start, lowest}
 use Rattle.large_blocks.specs.declared.LargeBlock.{LargeBlock}
 use Rattle.large_blocks.specs.Table.{place_of}
 use Rattle.large_blocks.specs.Sound.{page_of, end_of, IsLaid, AreLaid, IsRoom, page_behind, reach_at}
-use Rattle.large_blocks.proofs.Laid.{some_pages, laid_behind, behind_all, behind_inside}
+use Rattle.large_blocks.proofs.Laid.{laid_behind, behind_all, behind_inside}
 use Rattle.large_blocks.proofs.Free.{free_runs, gaps_from, between}
 
 -- the walk has come to this row and this address, and found no run before it

@@ -1,16 +1,16 @@
 -- Rows of the table: the one that has an address, and the one that a new block gets.
-use Rattle.std.proofs.Common.{◌≡◌, ℕ, suc, ◌+◌, ◌-◌, ◌*◌, ◌/◌, ◌<◌, ◌≤◌, Bool, true, false, List, [], ◌∷◌, ◌++◌, length, take, drop, set, get_or, map, Option, Some, refl, sym, ap, ◌∙◌, subst, arith, eqb, ltb, inl, inr, add-one}
+use Rattle.std.proofs.Common.{◌≡◌, ℕ, suc, ◌+◌, ◌-◌, ◌*◌, ◌<◌, ◌≤◌, true, false, List, [], ◌∷◌, ◌++◌, length, take, drop, set, get_or, map, Option, Some, refl, sym, ap, ◌∙◌, subst, arith, eqb, ltb, inl, inr}
 use Rattle.std.specs.Prelude.{IsSome, insert, remove}
 use Rattle.std.specs.List.{find, position, position_or_len}
 use Rattle.std.proofs.Math.Seq.{drop-cons, take-append_seam, drop-append_seam, set-append_seam}
-use Rattle.std.proofs.lemmas.Bool.{cases_Bool, ne_eqb, eq-eqb, eqb-true, lt-ltb, le-ltb, ltb-true, ltb-false}
+use Rattle.std.proofs.lemmas.Bool.{cases_Bool, ne_eqb, eq-eqb, eqb-true, lt-ltb, le-ltb}
 use Rattle.std.proofs.lemmas.List.{length-append, take-append-drop}
 use Rattle.heap_model.specs.declared.Limits.{Limits}
 use Rattle.heap_model.specs.Geometry.{pages_of}
 use Rattle.heap_model.specs.State.{Place, insert_place, change_found, remove_found}
 use Rattle.large_blocks.specs.declared.LargeBlock.{LargeBlock}
 use Rattle.large_blocks.specs.Table.{place_of, is_at, insert_block, with_bytes}
-use Rattle.large_blocks.specs.Sound.{page_of, end_of, IsLaid, AreLaid, IsRow, page_behind, reach_at}
+use Rattle.large_blocks.specs.Sound.{page_of, end_of, AreLaid, IsRow, page_behind, reach_at}
 use Rattle.large_blocks.proofs.Laid.{some_pages, laid_at, laid_without, laid_resized}
 
 ---- The row of an address

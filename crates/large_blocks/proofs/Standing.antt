@@ -1,29 +1,27 @@
 -- What the table tells of each state that it stands for, and what it stands for behind a change.
-use Rattle.std.proofs.Common.{◌≡◌, ◌⊎◌, ℕ, ◌+◌, ◌-◌, ◌*◌, ◌/◌, ◌<◌, ◌≤◌, Bool, true, false, ◌&&◌, ◌||◌, not, List, [], ◌∷◌, Option, Some, None, map, drop, refl, sym, ap, ◌∙◌, subst, arith, eqb, leb, cond, inl, inr, option_map}
+use Rattle.std.proofs.Common.{◌≡◌, ℕ, ◌+◌, ◌-◌, ◌*◌, ◌/◌, ◌<◌, ◌≤◌, Bool, true, false, ◌&&◌, not, List, [], ◌∷◌, Option, Some, map, drop, refl, sym, ap, ◌∙◌, subst, arith, eqb, leb, inl, inr, option_map}
 use Rattle.std.specs.Prelude.{filter_map, option_and_then}
 use Rattle.std.specs.List.{find, list_any}
-use Rattle.std.proofs.lemmas.Bool.{cases_Bool, cases_lt, eq-eqb, eqb-true, ne_eqb, le-leb, lt-leb, and_parts}
+use Rattle.std.proofs.lemmas.Bool.{cases_Bool, cases_lt, eqb-true, le-leb, lt-leb, and_parts}
 use Rattle.heap_model.specs.declared.Block.{Block}
 use Rattle.heap_model.specs.declared.Limits.{Limits}
-use Rattle.heap_model.specs.declared.Layer.TheVariants as layers
 use Rattle.heap_model.specs.declared.Opening.{Opening}
 use Rattle.heap_model.specs.Geometry.{route_of, is_huge, pages_of}
-use Rattle.heap_model.specs.Runs.{Run, fitting, runs}
-use Rattle.heap_model.specs.State.{State, Place, Status, Live, InHand, live_size, block_of, by_address, has_address, is_live_at, is_hand_at, is_live, change_found, remove_found, insert_place}
+use Rattle.heap_model.specs.Runs.{Run, fitting}
+use Rattle.heap_model.specs.State.{State, opening, Place, live_size, block_of, by_address, has_address, is_live_at, change_found, remove_found, insert_place}
 use Rattle.heap_model.specs.Ranges.{large_runs, large_place, is_clear_page, large_start, in_place, lowest}
 use Rattle.heap_model.specs.Stay.{run_from, reach, lets_stay}
-use Rattle.heap_model.specs.Legal.{with_status, with_places, resize_place}
+use Rattle.heap_model.specs.Legal.{resize_place}
 use Rattle.heap_model.specs.Layers.{StandsForLarge}
-use Rattle.serial_laws.proofs.Sorted.{OnlyOne, any_sorted, found_sorted, removed_sorted}
+use Rattle.serial_laws.proofs.Sorted.{OnlyOne, any_sorted, found_sorted, removed_sorted, changed_sorted}
 use Rattle.large_blocks.specs.declared.LargeBlock.{LargeBlock}
 use Rattle.large_blocks.specs.Table.{LargeTable, place_of, places_of, layer_of, is_at, is_from, block_in, insert_block, with_blocks, with_bytes}
-use Rattle.large_blocks.specs.Effects.{InEach, Makes, TellsStay, size_at, block_from, placed, dropped, resized}
-use Rattle.large_blocks.specs.Sound.{page_of, end_of, IsLaid, AreLaid, IsRow, page_behind, reach_at}
+use Rattle.large_blocks.specs.Effects.{InEach, TellsStay, Becomes, size_at, block_from, with_block, without_block, with_length}
+use Rattle.large_blocks.specs.Sound.{page_of, end_of, AreLaid, IsRow, page_behind, reach_at}
 use Rattle.large_blocks.proofs.Runs.{runs_same}
 use Rattle.large_blocks.proofs.Laid.{some_pages, laid_at, behind_all}
 use Rattle.large_blocks.proofs.Free.{free_runs, gaps_from, run_behind}
 use Rattle.large_blocks.proofs.Rows.{row_found, row_rest, inserted_place}
-use Rattle.large_blocks.proofs.Sorted.{or_false, changed_sorted}
 
 ---- Places of the table
 
@@ -71,10 +69,6 @@ and_true : (x : Bool) → (x && true) ≡ x
 and_true true = refl
 and_true false = refl
 
-none_in_hand : (c addr : ℕ) (bs : List LargeBlock) → list_any (is_hand_at c addr) (map place_of bs) ≡ false
-none_in_hand c addr [] = refl
-none_in_hand c addr (b ∷ bs) = let e = and_false (eqb b.addr addr) in rw e (none_in_hand c addr bs)
-
 found_place : (addr : ℕ) (bs : List LargeBlock) (b : LargeBlock) → find (is_at addr) bs ≡ Some b → find (has_address addr) (map place_of bs) ≡ Some (place_of b)
 found_place addr [] b e = absurd (let z : ⊥ = cc in z)
 found_place addr (c ∷ cs) b e = elim (cases_Bool (eqb c.addr addr)) [
@@ -82,68 +76,48 @@ found_place addr (c ∷ cs) b e = elim (cases_Bool (eqb c.addr addr)) [
   | inr f ↦ rw f (found_place addr cs b (rw f at e))
 ]
 
-removed_place : (addr : ℕ) (bs : List LargeBlock) → remove_found (is_live_at addr) (map place_of bs) ≡ map place_of (remove_found (is_at addr) bs)
+removed_place : (addr : ℕ) (bs : List LargeBlock) → remove_found (has_address addr) (map place_of bs) ≡ map place_of (remove_found (is_at addr) bs)
 removed_place addr [] = refl
-removed_place addr (b ∷ bs) = let t = and_true (eqb b.addr addr) in elim (cases_Bool (eqb b.addr addr)) [
-  | inl e ↦ rw (t, e) refl
-  | inr e ↦ rw (t, e) (ap (λ (ps : List Place). place_of b ∷ ps) (removed_place addr bs))
+removed_place addr (b ∷ bs) = elim (cases_Bool (eqb b.addr addr)) [
+  | inl e ↦ rw e refl
+  | inr e ↦ rw e (ap (λ (ps : List Place). place_of b ∷ ps) (removed_place addr bs))
 ]
 
-changed_place : (addr n : ℕ) (bs : List LargeBlock) → change_found (is_live_at addr) (resize_place (256 * pages_of n) n) (map place_of bs) ≡ map place_of (change_found (is_at addr) (with_bytes n) bs)
+changed_place : (addr n : ℕ) (bs : List LargeBlock) → change_found (has_address addr) (resize_place (256 * pages_of n) n) (map place_of bs) ≡ map place_of (change_found (is_at addr) (with_bytes n) bs)
 changed_place addr n [] = refl
-changed_place addr n (b ∷ bs) = let t = and_true (eqb b.addr addr) in elim (cases_Bool (eqb b.addr addr)) [
-  | inl e ↦ rw (t, e) refl
-  | inr e ↦ rw (t, e) (ap (λ (ps : List Place). place_of b ∷ ps) (changed_place addr n bs))
+changed_place addr n (b ∷ bs) = elim (cases_Bool (eqb b.addr addr)) [
+  | inl e ↦ rw e refl
+  | inr e ↦ rw e (ap (λ (ps : List Place). place_of b ∷ ps) (changed_place addr n bs))
 ]
 
----- What the calls make
+---- What the table stands for behind a call
 
--- a Take and a Drop leave the others
-taken_away : (c addr : ℕ) (ps : List Place) → list_any (is_hand_at c addr) ps ≡ false → dropped c addr ps ≡ remove_found (is_live_at addr) ps
-taken_away c addr [] h = refl
-taken_away c addr (p ∷ ps) h = elim (cases_Bool (is_live_at addr p)) [
-  | inl e ↦
-      let a : has_address addr p ≡ true = (and_parts (has_address addr p) (is_live p.status) e).0 in
-      let f = eq-eqb c c refl in
-      rw e (rw (a, f) refl)
-  | inr e ↦
-      let k = or_false (is_hand_at c addr p) (list_any (is_hand_at c addr) ps) h in
-      let g = k.0 in
-      rw e (rw g (ap (λ (qs : List Place). p ∷ qs) (taken_away c addr ps k.1)))
-]
+pub opens : (t : LargeTable) (l : Limits) → t.limits ≡ l → t.blocks ≡ [] → (o : Opening) → o.limits ≡ l → StandsForLarge o opening (layer_of t)
+opens t l e b o f = record { lock = refl; limits = e ∙ sym f; part = ap (map place_of) b }
 
-placed_is : (c addr n : ℕ) (ps : List Place) → placed c addr n ps ≡ place_of (record { addr = addr; size = n }) ∷ ps
-placed_is c addr n ps = let e = eq-eqb addr addr refl in let f = eq-eqb c c refl in rw (e, f) refl
+-- it is enough to speak of what the lock guards
+becomes : (old new : LargeTable) (f : List Place → List Place) → new.limits ≡ old.limits → ((ps : List Place) → places_of old ≡ by_address ps → places_of new ≡ by_address (f ps)) → Becomes old new f
+becomes old new f l h o st later t e = record { lock = refl; limits = l ∙ t.limits; part = h st.large t.part ∙ ap by_address (sym e) }
 
-pub takes : (old new : LargeTable) (addr n : ℕ) → new ≡ with_blocks old (insert_block (record { addr = addr; size = n }) old.blocks) → (c : ℕ) → Makes (placed c addr n) old new
-takes old new addr n e c o st h = subst (λ (t : LargeTable). StandsForLarge o (with_places st (Some layers.Large) (placed c addr n)) (layer_of t)) (sym e) (record {
-  lock = refl;
-  limits = h.limits;
-  part = inserted_place (record { addr = addr; size = n }) old.blocks ∙ ap (insert_place (place_of (record { addr = addr; size = n }))) h.part ∙ ap by_address (sym (placed_is c addr n st.large));
-})
+blocks_become : (old : LargeTable) (bs : List LargeBlock) (f : List Place → List Place) → ((ps : List Place) → places_of old ≡ by_address ps → map place_of bs ≡ by_address (f ps)) → (new : LargeTable) → new ≡ with_blocks old bs → Becomes old new f
+blocks_become old bs f h new e = subst (λ (t : LargeTable). Becomes old t f) (sym e) (becomes old (with_blocks old bs) f refl h)
 
-module _ (old new : LargeTable) (laid : AreLaid old.limits 0 old.blocks) (addr : ℕ) where
-  only : (o : Opening) (st : State) → StandsForLarge o st (layer_of old) → (test : Place → Bool) → ((b : LargeBlock) → test (place_of b) ≡ true → b.addr ≡ addr) → OnlyOne test (by_address st.large)
-  only o st h test at = subst (OnlyOne test) h.part (only_at old.limits 0 old.blocks addr test at laid)
+pub takes : (old new : LargeTable) (addr n : ℕ) → new ≡ with_blocks old (insert_block (record { addr = addr; size = n }) old.blocks) → Becomes old new (λ ps. with_block ps addr n)
+takes old new addr n e = blocks_become old (insert_block (record { addr = addr; size = n }) old.blocks) (λ ps. with_block ps addr n) (λ ps p.
+    inserted_place (record { addr = addr; size = n }) old.blocks ∙ ap (insert_place (place_of (record { addr = addr; size = n }))) p) new e
 
-  pub gives : new ≡ with_blocks old (remove_found (is_at addr) old.blocks) → (c : ℕ) → Makes (dropped c addr) old new
-  gives e c o st h = subst (λ (t : LargeTable). StandsForLarge o (with_places st (Some layers.Large) (dropped c addr)) (layer_of t)) (sym e) (record {
-    lock = refl;
-    limits = h.limits;
-    part =
-        sym (removed_place addr old.blocks) ∙ ap (remove_found (is_live_at addr)) h.part
-        ∙ sym (removed_sorted (is_live_at addr) st.large (only o st h (is_live_at addr) (at_live addr)))
-        ∙ ap by_address (sym (taken_away c addr st.large (sym (any_sorted (is_hand_at c addr) st.large) ∙ ap (list_any (is_hand_at c addr)) (sym h.part) ∙ none_in_hand c addr old.blocks)));
-  })
+module _ (old : LargeTable) (laid : AreLaid old.limits 0 old.blocks) (addr : ℕ) where
+  only : (ps : List Place) → places_of old ≡ by_address ps → (test : Place → Bool) → ((b : LargeBlock) → test (place_of b) ≡ true → b.addr ≡ addr) → OnlyOne test (by_address ps)
+  only ps p test at = subst (OnlyOne test) p (only_at old.limits 0 old.blocks addr test at laid)
 
-  pub resizes : (n : ℕ) → new ≡ with_blocks old (change_found (is_at addr) (with_bytes n) old.blocks) → Makes (resized addr n) old new
-  resizes n e o st h = subst (λ (t : LargeTable). StandsForLarge o (with_places st (Some layers.Large) (resized addr n)) (layer_of t)) (sym e) (record {
-    lock = refl;
-    limits = h.limits;
-    part =
-        sym (changed_place addr n old.blocks) ∙ ap (change_found (is_live_at addr) (resize_place (256 * pages_of n) n)) h.part
-        ∙ sym (changed_sorted (is_live_at addr) (resize_place (256 * pages_of n) n) (λ p. refl) st.large (only o st h (is_live_at addr) (at_live addr)));
-  })
+  pub gives : (new : LargeTable) → new ≡ with_blocks old (remove_found (is_at addr) old.blocks) → Becomes old new (λ ps. without_block ps addr)
+  gives new e = blocks_become old (remove_found (is_at addr) old.blocks) (λ ps. without_block ps addr) (λ ps p.
+      sym (removed_place addr old.blocks) ∙ ap (remove_found (has_address addr)) p ∙ sym (removed_sorted (has_address addr) ps (only ps p (has_address addr) (at_address addr)))) new e
+
+  pub resizes : (new : LargeTable) (n : ℕ) → new ≡ with_blocks old (change_found (is_at addr) (with_bytes n) old.blocks) → Becomes old new (λ ps. with_length ps addr n)
+  resizes new n e = blocks_become old (change_found (is_at addr) (with_bytes n) old.blocks) (λ ps. with_length ps addr n) (λ ps p.
+      sym (changed_place addr n old.blocks) ∙ ap (change_found (has_address addr) (resize_place (256 * pages_of n) n)) p
+      ∙ sym (changed_sorted (has_address addr) (resize_place (256 * pages_of n) n) (λ p. refl) ps (only ps p (has_address addr) (at_address addr)))) new e
 
 ---- What the calls answer
 
@@ -180,7 +154,7 @@ module _ (t : LargeTable) (o : Opening) (st : State) (h : StandsForLarge o st (l
   module _ (laid : AreLaid t.limits 0 t.blocks) (addr : ℕ) where
     pub place_at_address : (b : LargeBlock) → find (is_at addr) t.blocks ≡ Some b → find (has_address addr) st.large ≡ Some (place_of b)
     place_at_address b f =
-        sym (found_sorted (has_address addr) st.large (only t t laid addr o st h (has_address addr) (at_address addr)))
+        sym (found_sorted (has_address addr) st.large (only t laid addr st.large h.part (has_address addr) (at_address addr)))
         ∙ ap (find (has_address addr)) (sym h.part) ∙ found_place addr t.blocks b f
 
     reach_is : (index : ℕ) (r : IsRow t.blocks addr index) → reach o.limits st (place_of r.block) ≡ 256 * reach_at t.limits (drop index t.blocks)
@@ -235,7 +209,7 @@ pub same_size : (t : LargeTable) → AreLaid t.limits 0 t.blocks → (addr : ℕ
 same_size t laid addr o st h =
     sym (live_size_is addr t.blocks)
     ∙ ap (λ (ps : List Place). option_and_then (λ (p : Place). live_size p.status) (find (is_live_at addr) ps)) h.part
-    ∙ ap (option_and_then (λ (p : Place). live_size p.status)) (found_sorted (is_live_at addr) st.large (only t t laid addr o st h (is_live_at addr) (at_live addr)))
+    ∙ ap (option_and_then (λ (p : Place). live_size p.status)) (found_sorted (is_live_at addr) st.large (only t laid addr st.large h.part (is_live_at addr) (at_live addr)))
 
 blocks_are : (bs : List LargeBlock) → filter_map block_of (map place_of bs) ≡ map block_in bs
 blocks_are [] = refl

@@ -22,19 +22,12 @@ ghost use Rattle.heap_model.specs.Layers.{StandsForLarge};
 ghost use Rattle.heap_model.specs.declared.Opening.{Opening};
 ghost use Rattle.large_blocks.specs.declared.LargeBlock.{LargeBlock};
 ghost use Rattle.large_blocks.specs.Table.{place_of, places_of, layer_of, is_at, is_from, block_in, insert_block, with_blocks, with_bytes};
-ghost use Rattle.large_blocks.specs.Effects.{InEach, Makes, TellsStay, size_at, block_from, placed, dropped, resized};
+ghost use Rattle.large_blocks.specs.Effects.{InEach, TellsStay, Becomes, size_at, block_from, with_block, without_block, with_length};
 ghost use Rattle.large_blocks.specs.Sound.{AreLaid, IsRoom, IsRow, page_behind, reach_at};
 
 use arrayvec::ArrayVec;
-use heap_model::{Block, Layer, Limits, Stands};
+use heap_model::{Block, Layer, Limits, MOST_PAGED, PAGE_BYTES, SEGMENT_PAGES, Stands};
 use std::marker::Model;
-
-const PAGE_BYTES: u64 = 4096;
-
-const SEGMENT_PAGES: u64 = 256;
-
-/// The fewest bytes of a large block.
-const LEAST_BYTES: u64 = 520_193;
 
 /// A block has 128 pages or more, and the area at most 4,096.
 const MOST_BLOCKS: usize = 32;
@@ -100,7 +93,7 @@ impl Large {
         ensures in_each { InEach self.old (λ o st. result ≡ large_place o.limits st.large (pages_of n)) }
 
         ensures taken { IfSome result (λ a. self.new ≡ with_blocks self.old (insert_block (record { addr = a; size = n }) self.old.blocks)) }
-        ensures stands { IfSome result (λ a. (c : ℕ) → Makes (placed c a n) self.old self.new) }
+        ensures stands { IfSome result (λ a. Becomes self.old self.new (λ ps. with_block ps a n)) }
         ensures none { IfNone result (self.new ≡ self.old) }
     {
         let room = lowest_room(&self.limits, &self.blocks, n.div_ceil(PAGE_BYTES))?;
@@ -124,7 +117,7 @@ impl Large {
     pub fn give(&mut self, addr: u64)
         requires { IsSome (find (is_at addr) self.old.blocks) }
         ensures given { self.new ≡ with_blocks self.old (remove_found (is_at addr) self.old.blocks) }
-        ensures stands { (c : ℕ) → Makes (dropped c addr) self.old self.new }
+        ensures stands { Becomes self.old self.new (λ ps. without_block ps addr) }
     {
         let index = row_at(&self.blocks, addr);
         self.blocks.remove(index);
@@ -136,7 +129,7 @@ impl Large {
         requires { IsSome (find (is_at addr) self.old.blocks) }
         ensures stays { InEach self.old (λ o st. TellsStay o st addr n result) }
         ensures resized { OnTrue result (self.new ≡ with_blocks self.old (change_found (is_at addr) (with_bytes n) self.old.blocks)) }
-        ensures stands { OnTrue result (Makes (resized addr n) self.old self.new) }
+        ensures stands { OnTrue result (Becomes self.old self.new (λ ps. with_length ps addr n)) }
         ensures none { OnFalse result (self.new ≡ self.old) }
     {
         let index = row_at(&self.blocks, addr);
@@ -170,7 +163,7 @@ fn lowest_room(limits: &Limits, blocks: &[LargeBlock], pages: u64) -> Option<Roo
     ensures place { option_map (λ r. r.addr) result ≡ large_place limits.now (map place_of blocks.now) pages }
     ensures room { IfSome result (λ r. IsRoom limits.now blocks.now pages r.index r.addr) }
 {
-    let mut addr = PAGE_BYTES * (SEGMENT_PAGES * u64::from(limits.segments));
+    let mut addr = PAGE_BYTES * u64::from(SEGMENT_PAGES * limits.segments);
     for (index, block) in blocks.iter().enumerate() {
         if holds(addr, block.addr, pages) {
             return Some(Room { index, addr });
@@ -199,7 +192,7 @@ fn area_end(limits: &Limits) -> u64
     requires { AreValid limits.now }
     ensures { result ≡ 4096 * (256 * limits.now.segments + limits.now.large_pages) }
 {
-    PAGE_BYTES * (SEGMENT_PAGES * u64::from(limits.segments) + u64::from(limits.large_pages))
+    PAGE_BYTES * u64::from(SEGMENT_PAGES * limits.segments + limits.large_pages)
 }
 
 fn size_of_block_at(blocks: &[LargeBlock], addr: u64) -> Option<u64>
@@ -252,7 +245,7 @@ fn lets_stay(limits: &Limits, blocks: &[LargeBlock], index: usize, n: u64) -> bo
     requires inside { index < length blocks.now }
     ensures { result ≡ (nat_le 520193 n && nat_le (pages_of n) (reach_at limits.now (drop index blocks.now))) }
 {
-    n >= LEAST_BYTES && n.div_ceil(PAGE_BYTES) <= reach(limits, blocks, index)
+    n > MOST_PAGED && n.div_ceil(PAGE_BYTES) <= reach(limits, blocks, index)
 }
 
 /// The pages of the block of a row and of the free run right behind it.

@@ -1,6 +1,6 @@
-use Rattle.std.proofs.Common.{◌≡◌, ◌+◌, ◌*◌, Bool, sym, ◌∙◌, length, get_or, arith}
+use Rattle.std.proofs.Common.{sym, ◌∙◌, get_or}
 use Rattle.large_blocks.specs.declared.LargeBlock.{LargeBlock}
-use Rattle.large_blocks.proofs.Rooms.{run_is_here, room_is_here, next_page, at_next, last_page, nothing_fits, last_room, at_start}
+use Rattle.large_blocks.proofs.Rooms.{run_is_here, room_is_here, next_page, at_next, last_page, nothing_fits, last_room}
 use Rattle.large_blocks.proofs.lowest_room.Goals as goal
 
 nothing : LargeBlock

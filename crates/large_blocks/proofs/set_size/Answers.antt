@@ -1,7 +1,4 @@
-use Rattle.std.proofs.Common.{◌≡◌, ◌∙◌, ap, subst, arith, List, set, get_or, length, sym}
-use Rattle.std.specs.List.{refill}
 use Rattle.large_blocks.specs.declared.LargeBlock.{LargeBlock}
-use Rattle.large_blocks.specs.Table.{with_bytes}
 use Rattle.large_blocks.proofs.Calls.{size_is_set}
 use Rattle.large_blocks.proofs.set_size.Goals as goal
 

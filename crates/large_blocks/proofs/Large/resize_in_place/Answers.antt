@@ -1,6 +1,5 @@
-use Rattle.std.proofs.Common.{◌≡◌, ◌<◌, ◌∙◌, sym, ap, length, subst}
-use Rattle.large_blocks.specs.Table.{LargeTable, with_blocks}
-use Rattle.large_blocks.specs.Sound.{AreLaid}
+use Rattle.std.proofs.Common.{◌∙◌, sym}
+use Rattle.large_blocks.specs.Table.{LargeTable}
 use Rattle.large_blocks.proofs.Calls.{HasResized, has_resized, has_kept, is_inside, still_laid, still_inside}
 use Rattle.large_blocks.proofs.Large.resize_in_place.Goals as goal
 use Rattle.large_blocks.proofs.Large.resize_in_place.Goals.{After-set_size}
@@ -41,4 +40,4 @@ pub returns-clause-resized : goal.returns-clause-resized
 returns-clause-resized c = (resized c).changed
 
 pub returns-clause-stands : goal.returns-clause-stands
-returns-clause-stands c = (resized c).makes
+returns-clause-stands c = (resized c).stands

@@ -1,4 +1,4 @@
-use Rattle.std.proofs.Common.{◌≡◌, ◌∙◌, sym, ap, lit<, arith, Some}
+use Rattle.std.proofs.Common.{◌≡◌, ◌∙◌, ap, lit<, arith, Some}
 use Rattle.heap_model.specs.Geometry.{pages_of}
 use Rattle.large_blocks.specs.Table.{LargeTable, with_blocks}
 use Rattle.large_blocks.proofs.Calls.{HasTaken, has_taken, has_row, row_is_inside, is_place}
