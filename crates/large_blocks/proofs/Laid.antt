@@ -1,5 +1,7 @@
 -- Blocks that are laid in the area, each behind the one before.
 use Rattle.std.proofs.Common.{ℕ, ◌+◌, ◌*◌, ◌≤◌, List, [], ◌∷◌, ◌++◌, length, arith}
+use Rattle.std.specs.Prelude.{sum_by}
+use Rattle.std.proofs.lemmas.List.Sums.{sum_by-cons}
 use Rattle.heap_model.specs.declared.Limits.{Limits}
 use Rattle.heap_model.specs.Geometry.{pages_of}
 use Rattle.large_blocks.specs.declared.LargeBlock.{LargeBlock}
@@ -54,4 +56,13 @@ laid_few l from (b ∷ bs) f a =
     let n = some_pages b.size a.0.huge in
     let k = a.0.behind in
     let r = laid_few l (end_of l b) bs a.0.inside a.1 in
+    omega arith
+
+-- all together have no more bytes than the pages behind the first page
+pub laid_bytes : (l : Limits) (from : ℕ) (bs : List LargeBlock) → from ≤ l.large_pages → AreLaid l from bs → 4096 * from + sum_by (λ b. b.size) bs ≤ 4096 * l.large_pages
+laid_bytes l from [] f a = omega arith
+laid_bytes l from (b ∷ bs) f a =
+    let k = a.0.behind in
+    let r = laid_bytes l (end_of l b) bs a.0.inside a.1 in
+    let e = sum_by-cons (λ (b : LargeBlock). b.size) b bs in
     omega arith

@@ -215,7 +215,7 @@ blocks_are : (bs : List LargeBlock) → filter_map block_of (map place_of bs) �
 blocks_are [] = refl
 blocks_are (b ∷ bs) = ap (λ (cs : List Block). block_in b ∷ cs) (blocks_are bs)
 
-found_block : (from : ℕ) (bs : List LargeBlock) → find (λ (b : Block). leb from b.addr) (map block_in bs) ≡ option_map block_in (find (is_from from) bs)
+pub found_block : (from : ℕ) (bs : List LargeBlock) → find (λ (b : Block). leb from b.addr) (map block_in bs) ≡ option_map block_in (find (is_from from) bs)
 found_block from [] = refl
 found_block from (b ∷ bs) = elim (cases_Bool (leb from b.addr)) [
   | inl e ↦ rw e refl

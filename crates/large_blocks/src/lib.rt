@@ -23,7 +23,7 @@ ghost use Rattle.heap_model.specs.declared.Opening.{Opening};
 ghost use Rattle.large_blocks.specs.declared.LargeBlock.{LargeBlock};
 ghost use Rattle.large_blocks.specs.Table.{place_of, places_of, layer_of, is_at, is_from, block_in, insert_block, with_blocks, with_bytes};
 ghost use Rattle.large_blocks.specs.Effects.{InEach, TellsStay, Becomes, size_at, block_from, with_block, without_block, with_length};
-ghost use Rattle.large_blocks.specs.Sound.{AreLaid, IsRoom, IsRow, page_behind, reach_at};
+ghost use Rattle.large_blocks.specs.Sound.{AreLaid, IsSound, IsRoom, IsRow, page_behind, reach_at};
 
 use arrayvec::ArrayVec;
 use heap_model::{Block, Layer, Limits, MOST_PAGED, PAGE_BYTES, SEGMENT_PAGES, Stands};
@@ -95,6 +95,7 @@ impl Large {
         ensures taken { IfSome result (λ a. self.new ≡ with_blocks self.old (insert_block (record { addr = a; size = n }) self.old.blocks)) }
         ensures stands { IfSome result (λ a. Becomes self.old self.new (λ ps. with_block ps a n)) }
         ensures none { IfNone result (self.new ≡ self.old) }
+        ensures limits { self.new.limits ≡ self.old.limits }
     {
         let room = lowest_room(&self.limits, &self.blocks, n.div_ceil(PAGE_BYTES))?;
         let block = LargeBlock {
@@ -117,6 +118,7 @@ impl Large {
     pub fn give(&mut self, addr: u64)
         requires { IsSome (find (is_at addr) self.old.blocks) }
         ensures given { self.new ≡ with_blocks self.old (remove_found (is_at addr) self.old.blocks) }
+        ensures limits { self.new.limits ≡ self.old.limits }
         ensures stands { Becomes self.old self.new (λ ps. without_block ps addr) }
     {
         let index = row_at(&self.blocks, addr);
@@ -131,6 +133,7 @@ impl Large {
         ensures resized { OnTrue result (self.new ≡ with_blocks self.old (change_found (is_at addr) (with_bytes n) self.old.blocks)) }
         ensures stands { OnTrue result (Becomes self.old self.new (λ ps. with_length ps addr n)) }
         ensures none { OnFalse result (self.new ≡ self.old) }
+        ensures limits { self.new.limits ≡ self.old.limits }
     {
         let index = row_at(&self.blocks, addr);
         if !lets_stay(&self.limits, &self.blocks, index, n) {
@@ -138,6 +141,14 @@ impl Large {
         }
         set_size(&mut self.blocks, index, n);
         true
+    }
+
+    /// The blocks, by address. They lie in the area, each behind the one before.
+    pub fn blocks(&self) -> &[LargeBlock]
+        ensures blocks { result.now ≡ self.now.blocks }
+        ensures sound { IsSound self.now }
+    {
+        self.blocks.as_slice()
     }
 
     /// The first block at or after an address.

@@ -8,7 +8,7 @@ use Rattle.page_ranges.specs.Words.{runs_of}
 use Rattle.page_ranges.specs.Ranges.{begins_from, has_page}
 use Rattle.vs_split.specs.Tiles.{IsTiled}
 use Rattle.layout_decode.specs.declared.Image.{Image}
-use Rattle.layout_decode.specs.Decode.{decode, blocks_of, is_at_or_after, total_of, IsRunOfChunks, IsRunOfBlocks, BlocksFit, IsReadable}
+use Rattle.layout_decode.specs.Decode.{page_blocks, blocks_of, is_at_or_after, total_of, IsRunOfChunks, IsRunOfBlocks, BlocksFit, IsReadable}
 use Rattle.layout_decode.proofs.Walk.{all_behind, none_behind, blocks_from, Step, step, none_from, start, bounds, found_one, find_in, find_behind, total-append, quiet_all}
 use Rattle.layout_decode.proofs.OneRun.{IsReadableRun, headers, few, none_before}
 
@@ -48,20 +48,20 @@ module _ (image : Image) (readable : IsReadable image) (t : IsTiled image.heads)
   pub none_beyond : (page : ℕ) → length words ≤ page → left_from image page ≡ []
   none_beyond page l = ap (flat_map (of_run image)) (none_behind words 0 (length words) page (runs_of words) readable.whole l)
 
-  pub all_from : left_from image 0 ≡ decode image
+  pub all_from : left_from image 0 ≡ page_blocks image
   all_from = ap (flat_map (of_run image)) (all_behind words 0 (length words) 0 (runs_of words) readable.whole (omega arith))
 
-  pub starts_at : (from page : ℕ) (r : Run) → 4096 * page ≤ from → find (has_page page) (runs_of words) ≡ Some r → find (is_at_or_after from) (left_from image r.first) ≡ find (is_at_or_after from) (decode image)
+  pub starts_at : (from page : ℕ) (r : Run) → 4096 * page ≤ from → find (has_page page) (runs_of words) ≡ Some r → find (is_at_or_after from) (left_from image r.first) ≡ find (is_at_or_after from) (page_blocks image)
   starts_at from page r l e =
       let s = start (of_run image) (is_at_or_after from) (Each image) page (none_before image t readable.told from page l) words 0 (length words) (runs_of words) r readable.whole (each image readable) (omega arith) e in
       sym s.same
 
   -- no block lies behind the last page
-  pub none_past : (from : ℕ) → 4096 * length words ≤ from → find (is_at_or_after from) (decode image) ≡ None
+  pub none_past : (from : ℕ) → 4096 * length words ≤ from → find (is_at_or_after from) (page_blocks image) ≡ None
   none_past from l = quiet_all (of_run image) (is_at_or_after from) (Each image) (length words) (none_before image t readable.told from (length words) l) words 0 (length words) (runs_of words) readable.whole (each image readable) (omega arith)
 
   -- blocks are no more than the granules of the pages, and have no more bytes
-  pub few_blocks : (length (decode image) ≤ 256 * length words) × (total_of (decode image) ≤ 4096 * length words)
+  pub few_blocks : (length (page_blocks image) ≤ 256 * length words) × (total_of (page_blocks image) ≤ 4096 * length words)
   few_blocks =
       let b = bounds (of_run image) (Each image) (few image t readable.told) words 0 (length words) (runs_of words) readable.whole (each image readable) in
       (omega (arith, b.0), omega (arith, b.1))

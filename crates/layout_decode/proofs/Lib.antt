@@ -5,3 +5,4 @@ pub mod Images
 pub mod Told
 pub mod SubsegmentLemmas
 pub mod Segments
+pub mod TableLemmas

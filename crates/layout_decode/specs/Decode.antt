@@ -1,5 +1,6 @@
--- The live blocks that the metadata of a heap tells of: descriptors, header words, bitmaps and size words, and nothing else.
-use Rattle.std.specs.Prelude.{◌≡◌, ℕ, zero, suc, ◌+◌, ◌-◌, ◌*◌, ◌/◌, ◌%◌, ◌==◌, ◌≤◌, Bool, ◌&&◌, not, nat_le, nat_lt, List, [], ◌∷◌, ◌++◌, length, slice_index, flat_map, sum_by, Option, Some, if◌then◌else◌, cond}
+-- The live blocks that the metadata of a heap tells of: descriptors, header words, bitmaps, size words and the table of large blocks, and
+-- nothing else.
+use Rattle.std.specs.Prelude.{◌≡◌, ℕ, zero, suc, ◌+◌, ◌-◌, ◌*◌, ◌/◌, ◌%◌, ◌==◌, ◌≤◌, Bool, ◌&&◌, not, nat_le, nat_lt, List, [], ◌∷◌, ◌++◌, length, slice_index, map, flat_map, sum_by, Option, Some, if◌then◌else◌, cond}
 use Rattle.std.specs.List.{AllByRecursion}
 use Rattle.std.specs.Option.{option_map_or}
 use Rattle.heap_model.specs.declared.Kind.{Kind}
@@ -11,6 +12,7 @@ use Rattle.heap_model.specs.declared.Run.{Run}
 use Rattle.heap_model.specs.Bits.{has_bit}
 use Rattle.heap_model.specs.Buckets.{block_size, block_count, block_address, bucket_pages}
 use Rattle.heap_model.specs.Geometry.{page_bytes}
+use Rattle.large_blocks.specs.Table.{LargeTable, block_in}
 use Rattle.page_ranges.specs.Words.{runs_of}
 use Rattle.page_ranges.specs.Ranges.{IsWhole}
 use Rattle.page_ranges.specs.Spans.{block_of}
@@ -73,9 +75,17 @@ blocks_of image r kinds.Vs = chunk_blocks (head_told image) (256 * r.pages) (256
 blocks_of image r kinds.Lfh = blocks_at_bits image r (block_count r.mark.bucket) 0
 blocks_of image r _ = []
 
--- the blocks that an image tells of, by address
+-- the blocks of all runs
+abbrev pub page_blocks : Image → List Block
+page_blocks image = flat_map (λ r. blocks_of image r r.mark.kind) (runs_of image.descs)
+
+-- the blocks of the table of large blocks
+abbrev pub table_blocks : LargeTable → List Block
+table_blocks t = map block_in t.blocks
+
+-- the blocks that an image tells of, by address: the large area lies behind the pages
 abbrev pub decode : Image → List Block
-decode image = flat_map (λ r. blocks_of image r r.mark.kind) (runs_of image.descs)
+decode image = page_blocks image ++ table_blocks image.large
 
 abbrev pub is_at_or_after : ℕ → Block → Bool
 is_at_or_after from b = nat_le from b.addr
@@ -110,8 +120,8 @@ BlocksFit image r kinds.Lfh = AllByRecursion (λ b. b.size ≤ block_size r.mark
 BlocksFit image r _ = Unit {0}
 
 -- An image can be read: its runs are whole, chunks tile those of the variable-size layer, each header word tells its chunk, those of the
--- low-fragmentation front end are subsegments of their buckets, whose blocks fit, and words, region and descriptors are those of a heap with
--- these limits.
+-- low-fragmentation front end are subsegments of their buckets, whose blocks fit, and words, region, descriptors and large blocks are those
+-- of a heap with these limits.
 pub record IsReadable (image : Image) : Type 0 where
   pub whole : IsWhole image.descs
   pub rows : AllByRecursion (λ r. IsRunOfChunks image.heads r r.mark.kind) (runs_of image.descs)
@@ -121,3 +131,4 @@ pub record IsReadable (image : Image) : Type 0 where
   pub words : AreWords image.limits image.words
   pub segments : image.region.segments ≡ image.limits.segments
   pub pages : length image.descs ≡ 256 * image.limits.segments
+  pub large : image.large.limits ≡ image.limits

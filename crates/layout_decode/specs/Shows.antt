@@ -6,10 +6,11 @@ use Rattle.heap_model.specs.declared.Kind.TheVariants as kinds
 use Rattle.heap_model.specs.declared.Limits.{Limits}
 use Rattle.heap_model.specs.declared.Run.{Run}
 use Rattle.heap_model.specs.Geometry.{page_bytes}
-use Rattle.heap_model.specs.State.{State, Setting, Span, Place, live_size, has_address}
+use Rattle.heap_model.specs.State.{State, Setting, Span, Place, by_address, live_size, has_address}
 use Rattle.heap_model.specs.Backend.{free_runs, in_span}
 use Rattle.heap_model.specs.Ranges.{vs_spans}
 use Rattle.heap_model.specs.Search.{begins_at, spans_of}
+use Rattle.large_blocks.specs.Table.{places_of}
 use Rattle.page_region.specs.Held.{committed_of}
 use Rattle.page_ranges.specs.Words.{runs_of}
 use Rattle.page_ranges.specs.Ranges.{IsWhole}
@@ -53,8 +54,9 @@ pub record ShowsFront (l : Limits) (words : List ℕ) (st : State) : Type 0 wher
 
 -- The region and the descriptors have the segments of the heap. The descriptors are those of the spans and the free runs of the state, the
 -- region has its reserved segments and committed pages, a chunk is marked where a place or a gap begins and nowhere else, and the header words
--- are those of its places and gaps, by the key of the heap. Of the table, the words of the low-fragmentation front end, the data words, the
--- gate and the locks are those of the state, and no more callers were made than there may be.
+-- are those of its places and gaps, by the key of the heap. The table of large blocks lists the large places. Of the words of the table, those
+-- of the low-fragmentation front end, the data words, the gate and the locks are those of the state, and no more callers were made than there
+-- may be.
 pub record Shows (image : Image) (s : Setting) (st : State) : Type 0 where
   pub limits : image.limits ≡ s.limits
   pub key : image.key ≡ key_of s.seed
@@ -67,6 +69,8 @@ pub record Shows (image : Image) (s : Setting) (st : State) : Type 0 where
   pub free : frees_in (runs_of image.descs) ≡ free_runs st.back.area
   pub marks : (g : ℕ) → head_at image.heads g ≡ head_shown (vs_spans st.back.area) st.vs.places g
   pub headers : (g : ℕ) → word_at image.heads g ≡ word_shown image.key (vs_spans st.back.area) st.vs.places g
+  pub large_limits : image.large.limits ≡ s.limits
+  pub large : places_of image.large ≡ by_address st.large
   pub front : ShowsFront image.limits image.words st
   pub contents : AreShown image.words (data_region image.limits) st.words
   pub gate : GateShown st.gate image.words

@@ -7,9 +7,9 @@ ghost use Rattle.vs_split.specs.Tiles.{IsTiled};
 ghost use Rattle.table_words.specs.Told.{AreWords};
 ghost use Rattle.layout_decode.specs.Decode.{blocks_of, is_at_or_after, total_of, IsRunOfChunks, IsRunOfBlocks, BlocksFit, AreTold};
 
+use crate::Image;
 use crate::places::{count_places, next_place};
 use crate::subsegments::{count_in_subsegment, next_in_subsegment};
-use crate::Image;
 use heap_model::{Block, Kind, Layer, PAGE_BYTES, Run};
 
 /// The first block of a run at an address or after it.

@@ -8,6 +8,7 @@ ghost use Rattle.layout_decode.specs.Decode.{AreTold, IsReadable};
 
 use crate::{Image, count_blocks, next_block};
 use heap_model::{Block, Kind, Layer, Limits, Mark, OutOfMemory, Words};
+use large_blocks::Large;
 use page_ranges::Descs;
 use page_region::Region;
 use std::alloc::Global;
@@ -21,7 +22,7 @@ const KEY: u64 = 0x9e37_79b9_7f4a_7c3f;
 
 const ONE_SEGMENT: Limits = Limits {
     segments: 1,
-    large_pages: 0,
+    large_pages: 300,
     slots: 1,
     callers: 1,
 };
@@ -59,6 +60,7 @@ fn one_block(alloc: Global) -> Result<Image, OutOfMemory>
         descs,
         key: KEY,
         heads,
+        large: Large::new(&ONE_SEGMENT),
         words,
     })
 }
@@ -83,6 +85,7 @@ fn four_blocks<R: Abort>(rt: &R, alloc: Global) -> Result<Image, OutOfMemory>
         descs,
         key: KEY,
         heads,
+        large: Large::new(&ONE_SEGMENT),
         words,
     };
     assert!(rt; could_cut(&mut image, 8240, 2, 0, true));
@@ -112,8 +115,20 @@ fn five_blocks<R: Abort>(rt: &R, alloc: Global) -> Result<Image, OutOfMemory>
         descs,
         key: KEY,
         heads,
+        large: Large::new(&ONE_SEGMENT),
         words,
     })
+}
+
+/// The image with one more large block, where it fits.
+fn with_large(image: Image, n: u64) -> Image
+    requires readable { IsReadable image }
+    requires large { 520193 ≤ n }
+    ensures { IsReadable result }
+{
+    let mut image = image;
+    let _addr = image.large.take(n);
+    image
 }
 
 /// The words of a heap in which no bucket is active.
@@ -176,6 +191,7 @@ fn could_cut(image: &mut Image, addr: u64, units: u16, unused: u8, busy: bool) -
     ensures descs { image.new.descs ≡ image.old.descs }
     ensures region { image.new.region ≡ image.old.region }
     ensures limits { image.new.limits ≡ image.old.limits }
+    ensures large { image.new.large ≡ image.old.large }
     ensures words { image.new.words ≡ image.old.words }
 {
     let Some(head) = image.heads.chunk_at(addr) else {
@@ -271,5 +287,25 @@ fn reads_five_blocks(rt: HostRuntime) -> Result<(), Fail> {
     assert_eq!(rt; next_block(&image, 12_257), fifth);
     assert_eq!(rt; next_block(&image, 12_289), None);
     assert_eq!(rt; count_blocks(&image), (5, 131_142));
+    Ok(())
+}
+
+/// Large blocks behind the pages.
+#[test]
+fn reads_large_blocks(rt: HostRuntime) -> Result<(), Fail> {
+    let five = five_blocks(&rt, rt.alloc())?;
+    let image = with_large(with_large(with_large(five, 600_000), 520_193), 520_193);
+    let first = block(1_048_576, 600_000, Layer::Large);
+    let second = block(1_650_688, 520_193, Layer::Large);
+    assert_eq!(rt;
+        next_block(&image, 12_257),
+        block(12_288, 131_073, Layer::Back)
+    );
+    assert_eq!(rt; next_block(&image, 12_289), first);
+    assert_eq!(rt; next_block(&image, 1_048_576), first);
+    assert_eq!(rt; next_block(&image, 1_048_577), second);
+    assert_eq!(rt; next_block(&image, 1_650_688), second);
+    assert_eq!(rt; next_block(&image, 1_650_689), None);
+    assert_eq!(rt; count_blocks(&image), (7, 1_251_335));
     Ok(())
 }

@@ -46,5 +46,6 @@ returns g c =
         words = c.in_ok-words.ensures;
         segments = ap (λ (h : Held). h.segments) c.in_ok-region.ensures;
         pages = len;
+        large = c.new.ensures.limits;
       };
     }

@@ -2,7 +2,7 @@ use Rattle.std.proofs.Common.{length, sym, ap, ◌∙◌, arith}
 use Rattle.heap_model.specs.declared.Block.{Block}
 use Rattle.layout_decode.specs.Decode.{total_of}
 use Rattle.layout_decode.proofs.Images.{next, run_is, none_next, none_beyond, all_from, few_blocks, count_next}
-use Rattle.layout_decode.proofs.count_blocks.Goals as goal
+use Rattle.layout_decode.proofs.count_in_pages.Goals as goal
 
 pub loop-page-init : goal.loop-page-init
 loop-page-init c =
@@ -78,3 +78,13 @@ pub returns-clause-bytes : goal.returns-clause-bytes
 returns-clause-bytes c =
     let none = none_beyond c.args.image.now c.requires c.tiled.ensures c.loop-page.page (omega (arith, c.pages-end.ensures.pages, c.loop-page-test.false)) in
     omega (arith, ap total_of none, c.loop-page.invariant.bytes)
+
+pub returns-in_default-clause-few : goal.returns-in_default-clause-few
+returns-in_default-clause-few c =
+    let b = few_blocks c.args.image.now c.requires c.tiled.ensures in
+    (omega (arith, b.0, c.loop-page.invariant.blocks, c.pages-end.ensures.headered.few), omega (arith, b.1, c.loop-page.invariant.bytes, c.pages-end.ensures.headered.few))
+
+pub returns-clause-few : goal.returns-clause-few
+returns-clause-few c =
+    let b = few_blocks c.args.image.now c.requires c.tiled.ensures in
+    (omega (arith, b.0, c.loop-page.invariant.blocks, c.pages-end.ensures.headered.few), omega (arith, b.1, c.loop-page.invariant.bytes, c.pages-end.ensures.headered.few))
