@@ -53,6 +53,7 @@ fn one_block(alloc: Global) -> Result<Image, OutOfMemory>
     descs.open_segment(0);
     descs.mark(2, 33, BLOCK);
     descs.mark(35, 221, Mark::FREE);
+    let large = Large::new(&ONE_SEGMENT);
     let words = empty_words(alloc)?;
     Ok(Image {
         limits: ONE_SEGMENT,
@@ -60,7 +61,7 @@ fn one_block(alloc: Global) -> Result<Image, OutOfMemory>
         descs,
         key: KEY,
         heads,
-        large: Large::new(&ONE_SEGMENT),
+        large,
         words,
     })
 }
@@ -78,6 +79,7 @@ fn four_blocks<R: Abort>(rt: &R, alloc: Global) -> Result<Image, OutOfMemory>
     descs.mark(2, 16, Mark::VS);
     descs.mark(18, 33, BLOCK);
     descs.mark(51, 205, Mark::FREE);
+    let large = Large::new(&ONE_SEGMENT);
     let words = empty_words(alloc)?;
     let mut image = Image {
         limits: ONE_SEGMENT,
@@ -85,7 +87,7 @@ fn four_blocks<R: Abort>(rt: &R, alloc: Global) -> Result<Image, OutOfMemory>
         descs,
         key: KEY,
         heads,
-        large: Large::new(&ONE_SEGMENT),
+        large,
         words,
     };
     assert!(rt; could_cut(&mut image, 8240, 2, 0, true));
@@ -107,6 +109,7 @@ fn five_blocks<R: Abort>(rt: &R, alloc: Global) -> Result<Image, OutOfMemory>
     descs.mark(2, 1, SUBSEGMENT);
     descs.mark(3, 33, BLOCK);
     descs.mark(36, 220, Mark::FREE);
+    let large = Large::new(&ONE_SEGMENT);
     let words = words_of_four_blocks(alloc)?;
     assert!(rt; are_small(&words));
     Ok(Image {
@@ -115,7 +118,7 @@ fn five_blocks<R: Abort>(rt: &R, alloc: Global) -> Result<Image, OutOfMemory>
         descs,
         key: KEY,
         heads,
-        large: Large::new(&ONE_SEGMENT),
+        large,
         words,
     })
 }

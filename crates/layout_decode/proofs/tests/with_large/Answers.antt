@@ -13,5 +13,5 @@ returns c =
       words = r.words;
       segments = r.segments;
       pages = r.pages;
-      large = c.take.ensures.limits ∙ r.large;
+      large = c.take-addr.ensures.limits ∙ r.large;
     }
