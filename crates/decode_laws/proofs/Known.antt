@@ -5,7 +5,7 @@ use Rattle.heap_model.specs.declared.Layer.{Layer}
 use Rattle.heap_model.specs.declared.Layer.TheVariants as layers
 use Rattle.heap_model.specs.State.{State, Setting, IsValidSetting, Place, address, room, is_layer, places_of, all_places, place_at}
 use Rattle.heap_model.specs.History.{may_all_follow, first_configuration, configuration_of}
-use Rattle.heap_soundness.specs.Sound.{IsOneOf, IsSound, IsInLfh, HasSoundBlocks}
+use Rattle.heap_soundness.specs.Sound.{IsOneOf, IsSound, IsInLfh, IsInLarge, HasSoundBlocks}
 use Rattle.heap_soundness.specs.Invariant.{IsVsSound, IsLayerSound}
 use Rattle.heap_soundness.specs.Legal.{HaveOneAddress}
 use Rattle.heap_soundness.proofs.Lists.{all_at}
@@ -31,6 +31,7 @@ pub record IsKnownState (s : Setting) (st : State) : Type 0 where
   pub sound : IsSound s st
   pub vs : IsVsSound st.back.area.spans st.vs.places
   pub lfh : IsLayerSound (IsInLfh st.back.area.spans) st.lfh
+  pub large : IsLayerSound (IsInLarge s.limits) st.large
   pub one : HaveOneAddress st
   pub blocks : HasSoundBlocks st
 
@@ -41,6 +42,7 @@ known_state s es valid legal =
       sound = state_sound s (configuration_of s es) w valid;
       vs = w.heap.vs;
       lfh = w.heap.lfh;
+      large = w.heap.large;
       one = addresses_sound s (configuration_of s es) w;
       blocks = blocks_sound s (configuration_of s es) w;
     }

@@ -69,6 +69,22 @@ in_sorted p [] i = absurd i
 in_sorted p (q ∷ qs) (inl e) = subst (λ (r : Place). IsOneOf p (insert_place r (by_address qs))) (sym e) (here_inserted p (by_address qs))
 in_sorted p (q ∷ qs) (inr i) = in_inserted q p (by_address qs) (in_sorted p qs i)
 
-pub all_filtered : {A : Type 0} (P : A → Type 0) (t : A → Bool) (xs : List A) → AllByRecursion P xs → AllByRecursion P (filter t xs)
-all_filtered P t [] a = tt
-all_filtered P t (x ∷ xs) a = elim (cases_Bool (t x)) [ inl e ↦ rw e (a.0, all_filtered P t xs a.1) | inr e ↦ rw e (all_filtered P t xs a.1) ]
+from_inserted : (p q : Place) (ps : List Place) → IsOneOf q (insert_place p ps) → (p ≡ q) ⊎ IsOneOf q ps
+from_inserted p q [] (inl e) = inl e
+from_inserted p q [] (inr i) = absurd i
+from_inserted p q (r ∷ rs) i = elim (cases_Bool (ltb p.start r.start)) [
+  | inl e ↦ in_front (rw e at i)
+  | inr e ↦ behind (rw e at i) (λ j. from_inserted p q rs j)
+]
+  where
+    in_front : IsOneOf q (p ∷ r ∷ rs) → (p ≡ q) ⊎ IsOneOf q (r ∷ rs)
+    in_front (inl e) = inl e
+    in_front (inr j) = inr j
+
+    behind : IsOneOf q (r ∷ insert_place p rs) → (IsOneOf q (insert_place p rs) → (p ≡ q) ⊎ IsOneOf q rs) → (p ≡ q) ⊎ IsOneOf q (r ∷ rs)
+    behind (inl e) again = inr (inl e)
+    behind (inr j) again = elim (again j) [ inl e ↦ inl e | inr k ↦ inr (inr k) ]
+
+pub from_sorted : (p : Place) (ps : List Place) → IsOneOf p (by_address ps) → IsOneOf p ps
+from_sorted p [] i = absurd i
+from_sorted p (q ∷ qs) i = elim (from_inserted q p (by_address qs) i) [ inl e ↦ inl e | inr j ↦ inr (from_sorted p qs j) ]

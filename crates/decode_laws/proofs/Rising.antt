@@ -1,14 +1,14 @@
 -- Blocks in the order of their addresses: two such lists with the same blocks are one.
 use Rattle.std.proofs.Common.{◌≡◌, ℕ, ◌+◌, ◌*◌, ◌<◌, ◌≤◌, Bool, List, [], ◌∷◌, ◌++◌, refl, sym, ap, ◌∙◌, arith, inl, inr, ◌⊎◌}
-use Rattle.std.specs.Prelude.{filter, flat_map}
+use Rattle.std.specs.Prelude.{flat_map}
 use Rattle.std.specs.List.{AllByRecursion}
 use Rattle.std.proofs.lemmas.Bool.{cases_Bool}
 use Rattle.heap_model.specs.declared.Block.{Block}
 use Rattle.heap_model.specs.declared.Run.{Run}
 use Rattle.page_ranges.specs.Ranges.{AreRuns}
+use Rattle.page_ranges.proofs.Runs.{runs_le}
 use Rattle.heap_soundness.specs.Sound.{IsOneOf, IsInFrontOf, AreInOrderBlocks}
 use Rattle.heap_soundness.proofs.Lists.{all_at, all_weaker, all_append}
-use Rattle.decode_laws.proofs.Members.{all_filtered}
 
 abbrev pub IsBelow : Block → Block → Type 0
 IsBelow b d = b.addr < d.addr
@@ -17,13 +17,10 @@ abbrev pub ByAddress : List Block → Type 0
 ByAddress [] = Unit {0}
 ByAddress (b ∷ bs) = AllByRecursion (IsBelow b) bs × ByAddress bs
 
--- what is left of blocks in order
-pub picked_order : (t : Block → Bool) (bs : List Block) → AreInOrderBlocks bs → ByAddress (filter t bs)
-picked_order t [] a = tt
-picked_order t (b ∷ bs) a = elim (cases_Bool (t b)) [
-  | inl e ↦ rw e (all_filtered (IsBelow b) t bs (all_weaker (IsInFrontOf b) (IsBelow b) bs (λ d i h. h.0) a.0), picked_order t bs a.1)
-  | inr e ↦ rw e (picked_order t bs a.1)
-]
+-- blocks that lie one behind the other
+pub in_order : (bs : List Block) → AreInOrderBlocks bs → ByAddress bs
+in_order [] a = tt
+in_order (b ∷ bs) a = (all_weaker (IsInFrontOf b) (IsBelow b) bs (λ d i h. h.0) a.0, in_order bs a.1)
 
 -- blocks of some addresses in front of blocks of higher ones
 pub joined_order : (high : ℕ) (bs ds : List Block) → ByAddress bs → ByAddress ds → AllByRecursion (λ b. b.addr < high) bs → AllByRecursion (λ d. high ≤ d.addr) ds → ByAddress (bs ++ ds)
@@ -45,6 +42,17 @@ flat_above f words from to (r ∷ rs) a l =
     all_append (λ b. 4096 * from ≤ b.addr) (f r) (flat_map f rs)
     (all_weaker (LiesIn r) (λ b. 4096 * from ≤ b.addr) (f r) (λ b i k. let k0 = k.0 in omega arith) (l r (inl refl)))
     (all_weaker (λ b. 4096 * (from + r.pages) ≤ b.addr) (λ b. 4096 * from ≤ b.addr) (flat_map f rs) (λ b i k. omega arith) (flat_above f words (from + r.pages) to rs a.2 (λ q i. l q (inr i))))
+
+-- no block of a run lies behind the end
+pub flat_below : (f : Run → List Block) (words : List ℕ) (from to : ℕ) (rs : List Run) → AreRuns words from to rs → ((r : Run) → IsOneOf r rs → AllByRecursion (LiesIn r) (f r)) →
+    AllByRecursion (λ b. b.addr < 4096 * to) (flat_map f rs)
+flat_below f words from to [] a l = tt
+flat_below f words from to (r ∷ rs) a l =
+    let first = a.0 in
+    let end = runs_le words (from + r.pages) to rs a.2 in
+    all_append (λ b. b.addr < 4096 * to) (f r) (flat_map f rs)
+    (all_weaker (LiesIn r) (λ b. b.addr < 4096 * to) (f r) (λ b i k. let k1 = k.1 in omega arith) (l r (inl refl)))
+    (flat_below f words (from + r.pages) to rs a.2 (λ q i. l q (inr i)))
 
 pub flat_order : (f : Run → List Block) (words : List ℕ) (from to : ℕ) (rs : List Run) → AreRuns words from to rs → ((r : Run) → IsOneOf r rs → AllByRecursion (LiesIn r) (f r)) →
     ((r : Run) → IsOneOf r rs → ByAddress (f r)) → ByAddress (flat_map f rs)

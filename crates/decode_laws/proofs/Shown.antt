@@ -1,5 +1,5 @@
--- The blocks that an image tells of are the live ones of the back end, of the variable-size layer and of the low-fragmentation front end.
-use Rattle.std.proofs.Common.{◌≡◌, ℕ, ◌+◌, ◌-◌, ◌*◌, ◌/◌, ◌%◌, ◌<◌, ◌≤◌, Bool, true, false, ◌||◌, List, [], ◌∷◌, ◌++◌, leb, ltb, Option, Some, None, refl, sym, ap, ◌∙◌, subst, arith, inl, inr}
+-- The blocks that an image tells of are the live ones.
+use Rattle.std.proofs.Common.{◌≡◌, ℕ, ◌+◌, ◌-◌, ◌*◌, ◌/◌, ◌%◌, ◌<◌, ◌≤◌, Bool, true, false, ◌||◌, List, [], ◌∷◌, ◌++◌, map, leb, ltb, Option, Some, None, refl, sym, ap, ◌∙◌, subst, arith, inl, inr}
 use Rattle.std.specs.Prelude.{filter, option_map, option_and_then, unwrap_or, length}
 use Rattle.std.specs.List.{AllByRecursion, find, list_all}
 use Rattle.std.specs.Option.{option_map_or}
@@ -13,6 +13,7 @@ use Rattle.heap_model.specs.declared.Layer.TheVariants as layers
 use Rattle.heap_model.specs.declared.Run.{Run}
 use Rattle.heap_model.specs.State as state
 use Rattle.heap_model.specs.Buckets.{block_size}
+use Rattle.heap_model.specs.Geometry.{pages_of}
 use Rattle.heap_model.specs.State.{State, Setting, Span, Place, Status, Live, InHand, Area, address, room, live_size, is_live, has_address, is_layer, places_of, all_places, by_address, live}
 use Rattle.heap_model.specs.Ranges.{is_of_kind, vs_spans}
 use Rattle.heap_model.specs.Legal.{has_place, lies_in}
@@ -23,23 +24,25 @@ use Rattle.vs_headers.specs.declared.Head.{Head}
 use Rattle.vs_headers.specs.Headers.{IsHead, encoded, decoded}
 use Rattle.vs_headers.proofs.HeaderLemmas.{decodes}
 use Rattle.vs_split.specs.Shown.{head_shown}
-use Rattle.layout_decode.specs.Decode.{head_told, blocks_of, decode, IsRunOfChunks, IsRunOfBlocks, BlocksFit, IsReadable}
+use Rattle.layout_decode.specs.Decode.{head_told, blocks_of, page_blocks, table_blocks, decode, IsRunOfChunks, IsRunOfBlocks, BlocksFit, IsReadable}
 use Rattle.layout_decode.specs.Shows.{Shows, run_of_span, unused_in}
 use Rattle.layout_decode.specs.declared.Image.{Image}
-use Rattle.heap_soundness.specs.Sound.{IsOneOf, IsSoundSpan, IsCommittedSpan, IsInBack, IsInVs, HasSoundSize, HasRoom}
+use Rattle.heap_soundness.specs.Sound.{IsOneOf, IsSoundSpan, IsCommittedSpan, IsInBack, IsInVs, IsInLarge, HasSoundSize, HasRoom}
 use Rattle.heap_soundness.proofs.Lists.{all_at, all_from, found_in, found_passes, any_in}
 use Rattle.heap_soundness.proofs.GapRuns.{filtered_cases, in_filtered}
-use Rattle.heap_soundness.proofs.Enums.{kind_is, layer_is}
+use Rattle.heap_soundness.proofs.ByStart.{IsBefore, AreByStart, by_address_by_start}
+use Rattle.heap_soundness.proofs.Enums.{kind_is}
+use Rattle.large_blocks.specs.declared.LargeBlock.{LargeBlock}
+use Rattle.large_blocks.specs.Table as table
 use Rattle.heap_soundness.proofs.Spans.{above, same_first}
-use Rattle.decode_laws.specs.Told.{is_told, told_blocks, AreLive, OnlyToldLive, IsBackWhole}
-use Rattle.decode_laws.proofs.Members.{in_parts, in_mapped, from_mapped, in_flat, from_flat, in_chosen, in_sorted}
+use Rattle.decode_laws.specs.Told.{AreLive, IsShowable}
+use Rattle.decode_laws.proofs.Members.{in_parts, in_left, in_right, in_mapped, from_mapped, in_flat, from_flat, in_chosen, in_sorted, from_sorted}
 use Rattle.decode_laws.proofs.Known.{IsKnownState, address_by, room_by, of_layer, layer_at, in_layer, one_place}
-use Rattle.decode_laws.proofs.Rising.{ByAddress, LiesIn, picked_order, flat_order, same_blocks}
+use Rattle.decode_laws.proofs.Rising.{IsBelow, ByAddress, LiesIn, in_order, joined_order, flat_below, flat_order, same_blocks}
 use Rattle.decode_laws.proofs.Chunks.{AreKnown}
 use Rattle.decode_laws.proofs.Walk.{vs_block, IsBlockIn, span_found, span_order, span_has}
 use Rattle.decode_laws.proofs.Rows.{wide, span_row}
 use Rattle.decode_laws.proofs.Seats.{lfh_block, home, of_bucket, subsegment_live, subsegment_order, subsegment_has}
-use Rattle.search_laws.proofs.Filtered.{all_kept}
 
 abbrev back_block : ℕ → ℕ → Block
 back_block addr size = record { addr = addr; size = size; layer = layers.Back }
@@ -88,18 +91,11 @@ block_in ps x n h = with_found (find (has_address (4096 * x.first)) ps) refl h
     with_found None f h = absurd (let k : 4096 * x.pages - 0 < 65536 = h in omega (arith, k, n))
     with_found (Some p) f h = with_status p p.status refl f h
 
--- whether a block is told hangs on its layer alone
-told_of : (b : Block) (l : Layer) → b.layer ≡ l → is_told b ≡ is_told (record b { layer = l })
-told_of b l e = ap (λ (k : Layer). is_told (record b { layer = k })) e
-
 block_fields : (b : Block) (l : Layer) (a n : ℕ) → a ≡ b.addr → n ≡ b.size → l ≡ b.layer → record { addr = a; size = n; layer = l } ≡ b
 block_fields b l a n e f g =
     ap (λ (z : ℕ). let d : Block = record { addr = z; size = n; layer = l } in d) e
     ∙ (ap (λ (z : ℕ). let d : Block = record { addr = b.addr; size = z; layer = l } in d) f
     ∙ ap (λ (z : Layer). let d : Block = record { addr = b.addr; size = b.size; layer = z } in d) g)
-
-not_live : (ps : List Place) (p : Place) (n : ℕ) → AllByRecursion (λ q. is_live q.status ≡ false) ps → IsOneOf p ps → p.status ≡ Live n → ⊥
-not_live ps p n a i e = false≢true (sym (all_at (λ (q : Place). is_live q.status ≡ false) p ps a i) ∙ ap is_live e)
 
 module _ (s : Setting) (st : State) (image : Image) (known : IsKnownState s st) (shown : Shows image s st) where
   run_there : (x : Span) → IsOneOf x st.back.area.spans → IsOneOf (run_of_span st.back.places x) (runs_of image.descs)
@@ -154,14 +150,14 @@ module _ (s : Setting) (st : State) (image : Image) (known : IsKnownState s st) 
       let size : 4096 * x.pages - unused_in st.back.places x x.kind ≡ w.size = omega (arith, unused, fits) in
       ap (back_block (4096 * x.first)) size
 
-  -- the block of a live place of these layers is one of those told
-  live_place : (p : Place) (b : Block) → IsOneOf p (all_places st) → p.status ≡ Live b.size → address p ≡ b.addr → p.layer ≡ b.layer → is_told b ≡ true → IsOneOf b (told_blocks st)
-  live_place p b i status at layer told =
+  -- the block of a live place is one of the live ones
+  live_place : (p : Place) (b : Block) → IsOneOf p (all_places st) → p.status ≡ Live b.size → address p ≡ b.addr → p.layer ≡ b.layer → IsOneOf b (live st)
+  live_place p b i status at layer =
       let e : state.block_of p ≡ Some b =
       ap (λ (t : Status). option_map (λ (n : ℕ). record { addr = address p; size = n; layer = p.layer }) (live_size t)) status
       ∙ (ap (λ (a : ℕ). Some (record { addr = a; size = b.size; layer = p.layer })) at
       ∙ ap (λ (k : Layer). Some (record { addr = b.addr; size = b.size; layer = k })) layer) in
-      in_filtered is_told b (live st) told (in_chosen state.block_of p b (by_address (all_places st)) e (in_sorted p (all_places st) i))
+      in_chosen state.block_of p b (by_address (all_places st)) e (in_sorted p (all_places st) i)
 
   -- the span that a run is
   span_of_run : (r : Run) → IsOneOf r (runs_of image.descs) → is_of_span r.mark.kind ≡ true → (x : Span) × IsOneOf x st.back.area.spans × (run_of_span st.back.places x ≡ r)
@@ -180,7 +176,7 @@ module _ (s : Setting) (st : State) (image : Image) (known : IsKnownState s st) 
   AreInRun r bs = AllByRecursion (LiesIn r) bs × ByAddress bs
 
   -- a span tells its block
-  by_span : (x : Span) (k : Kind) (b : Block) → IsOneOf x st.back.area.spans → x.kind ≡ k → IsOneOf b (blocks_of image (run_of_span st.back.places x) k) → IsOneOf b (decode image)
+  by_span : (x : Span) (k : Kind) (b : Block) → IsOneOf x st.back.area.spans → x.kind ≡ k → IsOneOf b (blocks_of image (run_of_span st.back.places x) k) → IsOneOf b (page_blocks image)
   by_span x k b i e j = in_flat (λ (r : Run). blocks_of image r r.mark.kind) (run_of_span st.back.places x) b (runs_of image.descs) (run_there x i)
       (subst (λ (q : Kind). IsOneOf b (blocks_of image (run_of_span st.back.places x) q)) (sym e) j)
 
@@ -199,13 +195,13 @@ module _ (s : Setting) (st : State) (image : Image) (known : IsKnownState s st) 
         subsegment_order s st image known shown x f.1 kind,
       )
 
-  of_lfh_span : (x : Span) (b : Block) → IsOneOf x st.back.area.spans → x.kind ≡ kinds.Lfh → IsOneOf b (blocks_of image (run_of_span st.back.places x) kinds.Lfh) → IsOneOf b (told_blocks st)
+  of_lfh_span : (x : Span) (b : Block) → IsOneOf x st.back.area.spans → x.kind ≡ kinds.Lfh → IsOneOf b (blocks_of image (run_of_span st.back.places x) kinds.Lfh) → IsOneOf b (live st)
   of_lfh_span x b i k j =
       let q = subsegment_live s st image known shown x i k b j in
       let layer = layer_at s st known layers.Lfh q.place q.there in
-      live_place q.place b (of_layer st layers.Lfh q.place q.there) q.live (address_by q.place layers.Lfh layer ∙ q.start) (layer ∙ q.layer) (told_of b layers.Lfh (sym q.layer))
+      live_place q.place b (of_layer st layers.Lfh q.place q.there) q.live (address_by q.place layers.Lfh layer ∙ q.start) (layer ∙ q.layer)
 
-  of_lfh_place : (p : Place) (b : Block) → IsOneOf p st.lfh → p.status ≡ Live b.size → address p ≡ b.addr → p.layer ≡ b.layer → IsOneOf b (decode image)
+  of_lfh_place : (p : Place) (b : Block) → IsOneOf p st.lfh → p.status ≡ Live b.size → address p ≡ b.addr → p.layer ≡ b.layer → IsOneOf b (page_blocks image)
   of_lfh_place p b i status at layer =
       let h = home s st image known shown p i in
       let of_lfh = layer_at s st known layers.Lfh p i in
@@ -227,6 +223,58 @@ module _ (s : Setting) (st : State) (image : Image) (known : IsKnownState s st) 
         of_bucket s st image known shown x f.1 kind,
         all_from (λ (b : Block). b.size ≤ block_size x.bucket) (blocks_of image (run_of_span st.back.places x) kinds.Lfh) (λ b j. (subsegment_live s st image known shown x f.1 kind b j).fits),
       )
+
+  ---- The table of large blocks
+
+  row_there : (b : LargeBlock) → IsOneOf b image.large.blocks → IsOneOf (table.place_of b) st.large
+  row_there b i = from_sorted (table.place_of b) st.large (subst (IsOneOf (table.place_of b)) shown.large (in_mapped table.place_of b image.large.blocks i))
+
+  -- each row is live ..
+  row_live : (b : Block) → IsOneOf b (table_blocks image.large) → IsOneOf b (live st)
+  row_live b i =
+      let f = from_mapped table.block_in image.large.blocks b i in
+      subst (λ (d : Block). IsOneOf d (live st)) f.2 (live_place (table.place_of f.0) (table.block_in f.0) (of_layer st layers.Large (table.place_of f.0) (row_there f.0 f.1)) refl refl refl)
+
+  -- .. and each live place has its row
+  of_large_place : (p : Place) (b : Block) → IsOneOf p st.large → p.status ≡ Live b.size → address p ≡ b.addr → p.layer ≡ b.layer → IsOneOf b (table_blocks image.large)
+  of_large_place p b i status at layer =
+      let f = from_mapped table.place_of image.large.blocks p (subst (IsOneOf p) (sym shown.large) (in_sorted p st.large i)) in
+      let size : Live f.0.size ≡ Live b.size = ap (λ (q : Place). q.status) f.2 ∙ status in
+      let n : f.0.size ≡ b.size = cc in
+      let e : table.block_in f.0 ≡ b = block_fields b layers.Large f.0.addr f.0.size (ap address f.2 ∙ at) n (ap (λ (q : Place). q.layer) f.2 ∙ layer) in
+      subst (λ (d : Block). IsOneOf d (table_blocks image.large)) e (in_mapped table.block_in f.0 image.large.blocks f.1)
+
+  large_home : (b : LargeBlock) → IsOneOf b image.large.blocks → IsInLarge s.limits b.addr (256 * pages_of b.size)
+  large_home b i = all_at (λ (q : Place). IsInLarge s.limits q.start q.granules) (table.place_of b) st.large known.large.places (row_there b i)
+
+  rows_above : AllByRecursion (λ b. 4096 * length image.descs ≤ b.addr) (table_blocks image.large)
+  rows_above = all_from (λ (b : Block). 4096 * length image.descs ≤ b.addr) (table_blocks image.large) (λ b i.
+      let f = from_mapped table.block_in image.large.blocks b i in
+      let h = large_home f.0 f.1 in
+      let at : f.0.addr ≡ b.addr = ap (λ (d : Block). d.addr) f.2 in
+      let begins = h.begins in
+      let pages = shown.pages in
+      omega (arith, begins, at, pages))
+
+  rows_in_order : ByAddress (table_blocks image.large)
+  rows_in_order = by_start image.large.blocks (λ b i. i) (subst AreByStart (sym shown.large) (by_address_by_start st.large known.large.disjoint))
+    where
+      by_start : (bs : List LargeBlock) → ((b : LargeBlock) → IsOneOf b bs → IsOneOf b image.large.blocks) → AreByStart (map table.place_of bs) → ByAddress (map table.block_in bs)
+      by_start [] f a = tt
+      by_start (b ∷ bs) f a = (behind bs (λ d i. f d (inr i)) a.0, by_start bs (λ d i. f d (inr i)) a.1)
+        where
+          behind : (ds : List LargeBlock) → ((d : LargeBlock) → IsOneOf d ds → IsOneOf d image.large.blocks) → AllByRecursion (IsBefore (table.place_of b)) (map table.place_of ds) → AllByRecursion (IsBelow (table.block_in b)) (map table.block_in ds)
+          behind [] g h = tt
+          behind (d ∷ ds) g h = (one (large_home b (f b (inl refl))) (large_home d (g d (inl refl))) h.0, behind ds (λ e i. g e (inr i)) h.1)
+            where
+              one : IsInLarge s.limits b.addr (256 * pages_of b.size) → IsInLarge s.limits d.addr (256 * pages_of d.size) → IsBefore (table.place_of b) (table.place_of d) → b.addr < d.addr
+              one x y z =
+                  let m = x.enough in
+                  let n = x.whole in
+                  let k = y.enough in
+                  let o = y.whole in
+                  let l = z.0 in
+                  elim z.1 [ inl u ↦ omega (arith, u, m, n) | inr u ↦ absurd (omega (arith, u, k, o, l)) ]
 
   ---- Where no place of the variable-size layer is in hand
 
@@ -268,6 +316,7 @@ module _ (s : Setting) (st : State) (image : Image) (known : IsKnownState s st) 
       words = shown.front.words_are;
       segments = shown.segments ∙ sym (ap (λ (l : Limits). l.segments) shown.limits);
       pages = shown.pages ∙ sym (ap (λ (l : Limits). 256 * l.segments) shown.limits);
+      large = shown.large_limits ∙ sym shown.limits;
     }
 
     -- the blocks of a run of the layer
@@ -304,23 +353,23 @@ module _ (s : Setting) (st : State) (image : Image) (known : IsKnownState s st) 
     in_any_run r i kinds.Vs k = in_vs_run r i k
 
     -- each block that the image tells of is live
-    of_vs_span : (x : Span) (b : Block) → IsOneOf x st.back.area.spans → x.kind ≡ kinds.Vs → IsOneOf b (run_blocks (run_of_span st.back.places x)) → IsOneOf b (told_blocks st)
+    of_vs_span : (x : Span) (b : Block) → IsOneOf x st.back.area.spans → x.kind ≡ kinds.Vs → IsOneOf b (run_blocks (run_of_span st.back.places x)) → IsOneOf b (live st)
     of_vs_span x b i k j =
         let f = found_in_span x b i k j in
         let layer = layer_at s st known layers.Vs f.place f.there in
         let of_vs : layers.Vs ≡ b.layer = ap (λ (d : Block). d.layer) f.is in
         live_place f.place b (of_layer st layers.Vs f.place f.there)
-        (f.live ∙ ap (λ (d : Block). Live d.size) f.is) (address_by f.place layers.Vs layer ∙ ap (λ (d : Block). d.addr) f.is) (layer ∙ of_vs) (told_of b layers.Vs (sym of_vs))
+        (f.live ∙ ap (λ (d : Block). Live d.size) f.is) (address_by f.place layers.Vs layer ∙ ap (λ (d : Block). d.addr) f.is) (layer ∙ of_vs)
 
-    of_back_span : (x : Span) (b : Block) → IsOneOf x st.back.area.spans → x.kind ≡ kinds.Back → block_of 4096 (run_of_span st.back.places x) ≡ b → IsOneOf b (told_blocks st)
+    of_back_span : (x : Span) (b : Block) → IsOneOf x st.back.area.spans → x.kind ≡ kinds.Back → block_of 4096 (run_of_span st.back.places x) ≡ b → IsOneOf b (live st)
     of_back_span x b i k e =
         let w = has_block x i k in
         let p = place_of x i w in
         let same : back_block (4096 * x.first) w.size ≡ b = sym (block_is x i k w) ∙ e in
         let of_back_layer : layers.Back ≡ b.layer = ap (λ (d : Block). d.layer) same in
-        live_place w.place b (of_layer st layers.Back w.place p.there) (w.live ∙ ap (λ (d : Block). Live d.size) same) (p.at ∙ ap (λ (d : Block). d.addr) same) (p.layer ∙ of_back_layer) (told_of b layers.Back (sym of_back_layer))
+        live_place w.place b (of_layer st layers.Back w.place p.there) (w.live ∙ ap (λ (d : Block). Live d.size) same) (p.at ∙ ap (λ (d : Block). d.addr) same) (p.layer ∙ of_back_layer)
 
-    of_run : (r : Run) (b : Block) → IsOneOf r (runs_of image.descs) → (k : Kind) → r.mark.kind ≡ k → IsOneOf b (blocks_of image r k) → IsOneOf b (told_blocks st)
+    of_run : (r : Run) (b : Block) → IsOneOf r (runs_of image.descs) → (k : Kind) → r.mark.kind ≡ k → IsOneOf b (blocks_of image r k) → IsOneOf b (live st)
     of_run r b i kinds.Header k j = absurd j
     of_run r b i kinds.Free k j = absurd j
     of_run r b i kinds.Lfh k j =
@@ -334,11 +383,11 @@ module _ (s : Setting) (st : State) (image : Image) (known : IsKnownState s st) 
         let f = span_of_run r i (ap is_of_span k) in
         of_vs_span f.0 b f.1 (ap (λ (q : Run). q.mark.kind) f.2 ∙ k) (subst (λ (q : Run). IsOneOf b (run_blocks q)) (sym f.2) j)
 
-    told_live : (b : Block) → IsOneOf b (decode image) → IsOneOf b (told_blocks st)
-    told_live b i = let f = from_flat (λ (r : Run). blocks_of image r r.mark.kind) (runs_of image.descs) b i in of_run f.0 b f.1 f.0.mark.kind refl f.2
+    page_live : (b : Block) → IsOneOf b (page_blocks image) → IsOneOf b (live st)
+    page_live b i = let f = from_flat (λ (r : Run). blocks_of image r r.mark.kind) (runs_of image.descs) b i in of_run f.0 b f.1 f.0.mark.kind refl f.2
 
     -- each live block of these layers is told of
-    of_back_place : (p : Place) (b : Block) → IsOneOf p st.back.places → p.status ≡ Live b.size → address p ≡ b.addr → p.layer ≡ b.layer → IsOneOf b (decode image)
+    of_back_place : (p : Place) (b : Block) → IsOneOf p st.back.places → p.status ≡ Live b.size → address p ≡ b.addr → p.layer ≡ b.layer → IsOneOf b (page_blocks image)
     of_back_place p b i status at layer =
         let home : IsInBack st.back.area.spans p.start p.granules = all_at (λ (q : Place). IsInBack st.back.area.spans q.start q.granules) p st.back.places known.sound.places.back i in
         let w = has_block home.span home.there home.kind in
@@ -350,7 +399,7 @@ module _ (s : Setting) (st : State) (image : Image) (known : IsKnownState s st) 
         let e : block_of 4096 (run_of_span st.back.places home.span) ≡ b = block_is home.span home.there home.kind w ∙ block_fields b layers.Back (4096 * home.span.first) w.size addr n (sym (layer_at s st known layers.Back p i) ∙ layer) in
         by_span home.span kinds.Back b home.there home.kind (inl e)
 
-    of_vs_place : (p : Place) (b : Block) → IsOneOf p st.vs.places → p.status ≡ Live b.size → address p ≡ b.addr → p.layer ≡ b.layer → IsOneOf b (decode image)
+    of_vs_place : (p : Place) (b : Block) → IsOneOf p st.vs.places → p.status ≡ Live b.size → address p ≡ b.addr → p.layer ≡ b.layer → IsOneOf b (page_blocks image)
     of_vs_place p b i status at layer =
         let home : IsInVs st.back.area.spans p.start p.granules = all_at (λ (q : Place). IsInVs st.back.area.spans q.start q.granules) p st.vs.places known.sound.places.vs i in
         let behind = home.behind in
@@ -361,46 +410,36 @@ module _ (s : Setting) (st : State) (image : Image) (known : IsKnownState s st) 
         let e : vs_block p.start b.size ≡ b = block_fields b layers.Vs (p.start + 16) b.size (sym (address_by p layers.Vs of_vs) ∙ at) refl (sym of_vs ∙ layer) in
         by_span home.span kinds.Vs b home.there home.kind (subst (λ (d : Block). IsOneOf d (run_blocks (run_of_span st.back.places home.span))) e there)
 
-    live_told : (b : Block) → IsOneOf b (told_blocks st) → IsOneOf b (decode image)
-    live_told b i =
-        let f = filtered_cases is_told b (live st) i in
-        let h : HasRoom (all_places st) b = all_at (HasRoom (all_places st)) b (live st) known.blocks.room f.0 in
-        elim (or_cases (is_layer b.layer layers.Back || is_layer b.layer layers.Vs) (is_layer b.layer layers.Lfh) f.1) [
-          | inr e ↦ of_lfh_place h.place b (of layers.Lfh h e) h.live h.at h.layer
-          | inl k ↦ elim (or_cases (is_layer b.layer layers.Back) (is_layer b.layer layers.Vs) k) [
-            | inl e ↦ of_back_place h.place b (of layers.Back h e) h.live h.at h.layer
-            | inr e ↦ of_vs_place h.place b (of layers.Vs h e) h.live h.at h.layer
-          ]
+    told_live : (b : Block) → IsOneOf b (decode image) → IsOneOf b (live st)
+    told_live b i = elim (in_parts b (page_blocks image) (table_blocks image.large) i) [ inl j ↦ page_live b j | inr j ↦ row_live b j ]
+
+    live_told : (b : Block) → IsOneOf b (live st) → IsOneOf b (decode image)
+    live_told b i = elim (in_parts h.place (st.lfh ++ st.vs.places ++ st.back.places) st.large h.there) [
+      | inr j ↦ in_right b (page_blocks image) (table_blocks image.large) (of_large_place h.place b j h.live h.at h.layer)
+      | inl j ↦ in_left b (page_blocks image) (table_blocks image.large) (elim (in_parts h.place (st.lfh ++ st.vs.places) st.back.places j) [
+        | inr k ↦ of_back_place h.place b k h.live h.at h.layer
+        | inl k ↦ elim (in_parts h.place st.lfh st.vs.places k) [
+          | inl m ↦ of_lfh_place h.place b m h.live h.at h.layer
+          | inr m ↦ of_vs_place h.place b m h.live h.at h.layer
         ]
+      ])
+    ]
       where
-        of : (l : Layer) (h : HasRoom (all_places st) b) → is_layer b.layer l ≡ true → IsOneOf h.place (places_of st l)
-        of l h e = in_layer s st known l h.place h.there (h.layer ∙ sym (layer_is b.layer l e))
+        h : HasRoom (all_places st) b
+        h = all_at (HasRoom (all_places st)) b (live st) known.blocks.room i
 
-    pub told : decode image ≡ told_blocks st
-    told = same_blocks (decode image) (told_blocks st)
-        (flat_order (λ (r : Run). blocks_of image r r.mark.kind) image.descs 0 (length image.descs) (runs_of image.descs) shown.whole
-        (λ r i. (in_any_run r i r.mark.kind refl).0) (λ r i. (in_any_run r i r.mark.kind refl).1))
-        (picked_order is_told (live st) known.blocks.in_order)
-        told_live live_told
+    pages_in_order : ByAddress (page_blocks image)
+    pages_in_order = flat_order (λ (r : Run). blocks_of image r r.mark.kind) image.descs 0 (length image.descs) (runs_of image.descs) shown.whole
+        (λ r i. (in_any_run r i r.mark.kind refl).0) (λ r i. (in_any_run r i r.mark.kind refl).1)
 
-    ---- Where only these layers have live blocks
+    -- the pages end where the large area begins
+    all_in_order : ByAddress (decode image)
+    all_in_order = joined_order (4096 * length image.descs) (page_blocks image) (table_blocks image.large) pages_in_order rows_in_order
+        (flat_below (λ (r : Run). blocks_of image r r.mark.kind) image.descs 0 (length image.descs) (runs_of image.descs) shown.whole (λ r i. (in_any_run r i r.mark.kind refl).0))
+        rows_above
 
-    all_told : OnlyToldLive st → (b : Block) → IsOneOf b (live st) → is_told b ≡ true
-    all_told only b i =
-        let h : HasRoom (all_places st) b = all_at (HasRoom (all_places st)) b (live st) known.blocks.room i in
-        elim (in_parts h.place (st.lfh ++ st.vs.places ++ st.back.places) st.large h.there) [
-          | inr j ↦ absurd (not_live st.large h.place b.size only.large j h.live)
-          | inl j ↦ elim (in_parts h.place (st.lfh ++ st.vs.places) st.back.places j) [
-            | inr k ↦ told_of b layers.Back (sym h.layer ∙ layer_at s st known layers.Back h.place k)
-            | inl k ↦ elim (in_parts h.place st.lfh st.vs.places k) [
-              | inl m ↦ told_of b layers.Lfh (sym h.layer ∙ layer_at s st known layers.Lfh h.place m)
-              | inr m ↦ told_of b layers.Vs (sym h.layer ∙ layer_at s st known layers.Vs h.place m)
-            ]
-          ]
-        ]
-
-    pub told_whole : OnlyToldLive st → decode image ≡ live st
-    told_whole only = told ∙ all_kept is_told (live st) (all_told only)
+    pub told : decode image ≡ live st
+    told = same_blocks (decode image) (live st) all_in_order (in_order (live st) known.blocks.in_order) told_live live_told
 
   ---- What an image can show
 
@@ -408,8 +447,8 @@ module _ (s : Setting) (st : State) (image : Image) (known : IsKnownState s st) 
   all_tested t [] f = refl
   all_tested t (x ∷ xs) f = and_from (t x) (list_all t xs) (f x (inl refl)) (all_tested t xs (λ y i. f y (inr i)))
 
-  pub whole_shown : IsBackWhole st
-  whole_shown = record {
+  pub showable : IsShowable st
+  showable = record {
     whole = all_tested (has_place 4096 st.back.places) (filter (is_of_kind kinds.Back) st.back.area.spans) (λ x i.
         let f = filtered_cases (is_of_kind kinds.Back) x st.back.area.spans i in
         let w = has_block x f.0 (kind_is x.kind kinds.Back f.1) in
@@ -418,8 +457,11 @@ module _ (s : Setting) (st : State) (image : Image) (known : IsKnownState s st) 
         let whole = p.whole in
         any_in (lies_in 4096 x) st.back.places w.place p.there
         (and_from _ _ (le-leb (4096 * x.first) w.place.start (omega (arith, start))) (le-leb (w.place.start + 16 * w.place.granules) (4096 * (x.first + x.pages)) (omega (arith, start, whole)))));
-    live = all_from (λ (p : Place). is_live p.status ≡ true) st.back.places (λ p i.
+    back = all_from (λ (p : Place). is_live p.status ≡ true) st.back.places (λ p i.
         let at : IsInBack st.back.area.spans p.start p.granules = all_at (λ (q : Place). IsInBack st.back.area.spans q.start q.granules) p st.back.places known.sound.places.back i in
         let w = has_block at.span at.there at.kind in
         ap (λ (q : Place). is_live q.status) (sym (found_is at.span p at.there w i at.begins)) ∙ ap is_live w.live);
+    large = all_from (λ (p : Place). is_live p.status ≡ true) st.large (λ p i.
+        let f = from_mapped table.place_of image.large.blocks p (subst (IsOneOf p) (sym shown.large) (in_sorted p st.large i)) in
+        ap (λ (q : Place). is_live q.status) (sym f.2));
   }
