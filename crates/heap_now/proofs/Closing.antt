@@ -1,5 +1,6 @@
 -- What a heap leaves behind, as it is seen.
-use Rattle.std.proofs.Common.{◌≡◌, ℕ, List, sym, ap, subst, ◌∙◌}
+use Rattle.std.proofs.Common.{◌≡◌, ℕ, List, [], sym, ap, subst, ◌∙◌}
+use Rattle.heap_model.specs.declared.Limits.{Limits}
 use Rattle.heap_model.specs.State.{live}
 use Rattle.heap_model.specs.CallState.{Configuration}
 use Rattle.page_region.specs.Held.{Held}
@@ -7,28 +8,33 @@ use Rattle.vs_headers.specs.Headers.{key_of}
 use Rattle.vs_split.specs.Chunks.{Chunks}
 use Rattle.vs_layer.specs.Effects.{ShowsChunks}
 use Rattle.backend_fit.specs.Sound.{IsSound}
+use Rattle.large_blocks.specs.Table.{LargeTable}
 use Rattle.layout_decode.specs.declared.Image.{Image}
 use Rattle.layout_decode.specs.Decode.{decode, IsReadable}
 use Rattle.layout_decode.specs.Shows.{Shows}
 use Rattle.heap_now.specs.Standing.{LoneHeap, setting_of, Stands, HasHistory}
-use Rattle.heap_now.proofs.Shown.{shows}
+use Rattle.heap_now.proofs.Shown.{no_blocks, shows}
 use Rattle.heap_now.proofs.Lives.{lives, readable}
 
-module _ (v h : LoneHeap) (seen : v ≡ h) (sound : IsSound v.back) (chunks : ShowsChunks v.vs) (region : Held) (descs : List ℕ) (key : ℕ) (heads : Chunks) (words : List ℕ)
-    (r : region ≡ v.back.region) (w : descs ≡ v.back.words) (k : key ≡ key_of v.seed) (g : heads ≡ v.vs.chunks) (f : words ≡ v.lfh.words) where
+pub no_rows : (t : LargeTable) (l : Limits) → t.limits ≡ l → t.blocks ≡ [] → t ≡ no_blocks l
+no_rows t l e f = λ i. record { limits = e i; blocks = f i }
+
+module _ (v h : LoneHeap) (seen : v ≡ h) (sound : IsSound v.back) (chunks : ShowsChunks v.vs) (region : Held) (descs : List ℕ) (key : ℕ) (heads : Chunks) (large : LargeTable) (words : List ℕ)
+    (r : region ≡ v.back.region) (w : descs ≡ v.back.words) (k : key ≡ key_of v.seed) (g : heads ≡ v.vs.chunks) (b : large ≡ no_blocks v.limits) (f : words ≡ v.lfh.words) where
   abbrev left : Image
-  left = record { limits = v.limits; region = region; descs = descs; key = key; heads = heads; words = words }
+  left = record { limits = v.limits; region = region; descs = descs; key = key; heads = heads; large = large; words = words }
 
   abbrev told : Image
-  told = record { limits = v.limits; region = v.back.region; descs = v.back.words; key = key_of v.seed; heads = v.vs.chunks; words = v.lfh.words }
+  told = record { limits = v.limits; region = v.back.region; descs = v.back.words; key = key_of v.seed; heads = v.vs.chunks; large = no_blocks v.limits; words = v.lfh.words }
 
   same : left ≡ told
   same =
-      ap (λ (x : Held). record { limits = v.limits; region = x; descs = descs; key = key; heads = heads; words = words }) r
-      ∙ ap (λ (x : List ℕ). record { limits = v.limits; region = v.back.region; descs = x; key = key; heads = heads; words = words }) w
-      ∙ ap (λ (x : ℕ). record { limits = v.limits; region = v.back.region; descs = v.back.words; key = x; heads = heads; words = words }) k
-      ∙ ap (λ (x : Chunks). record { limits = v.limits; region = v.back.region; descs = v.back.words; key = key_of v.seed; heads = x; words = words }) g
-      ∙ ap (λ (x : List ℕ). record { limits = v.limits; region = v.back.region; descs = v.back.words; key = key_of v.seed; heads = v.vs.chunks; words = x }) f
+      ap (λ (x : Held). record { limits = v.limits; region = x; descs = descs; key = key; heads = heads; large = large; words = words }) r
+      ∙ ap (λ (x : List ℕ). record { limits = v.limits; region = v.back.region; descs = x; key = key; heads = heads; large = large; words = words }) w
+      ∙ ap (λ (x : ℕ). record { limits = v.limits; region = v.back.region; descs = v.back.words; key = x; heads = heads; large = large; words = words }) k
+      ∙ ap (λ (x : Chunks). record { limits = v.limits; region = v.back.region; descs = v.back.words; key = key_of v.seed; heads = x; large = large; words = words }) g
+      ∙ ap (λ (x : LargeTable). record { limits = v.limits; region = v.back.region; descs = v.back.words; key = key_of v.seed; heads = v.vs.chunks; large = x; words = words }) b
+      ∙ ap (λ (x : List ℕ). record { limits = v.limits; region = v.back.region; descs = v.back.words; key = key_of v.seed; heads = v.vs.chunks; large = no_blocks v.limits; words = x }) f
 
   pub closes : (m : Configuration) → Stands h m → Shows left (setting_of h) m.state
   closes m st =

@@ -10,10 +10,10 @@ use Rattle.vs_layer.specs.Kept.{place_of, place_if, places_from}
 use Rattle.layout_decode.specs.declared.Image.{Image}
 use Rattle.layout_decode.specs.Decode.{decode, IsReadable}
 use Rattle.layout_decode.specs.Shows.{Shows}
-use Rattle.decode_laws.specs.Told.{AreLive, OnlyToldLive}
+use Rattle.decode_laws.specs.Told.{AreLive}
 use Rattle.decode_laws.proofs.Members.{in_sorted}
 use Rattle.decode_laws.proofs.Known.{IsKnownState, known_state}
-use Rattle.decode_laws.proofs.Shown.{told_whole, can_read}
+use Rattle.decode_laws.proofs.Shown.{told, can_read}
 use Rattle.heap_now.specs.Standing.{LoneHeap, setting_of, Stands}
 use Rattle.heap_now.proofs.Known.{valid}
 
@@ -51,9 +51,7 @@ module _ (h : LoneHeap) (m : Configuration) (st : Stands h m) (image : Image) (s
 
   -- the blocks that an image of the heap tells are the live ones
   pub lives : decode image ≡ live m.state
-  lives =
-      let only : OnlyToldLive m.state = record { large = subst (AllByRecursion (λ p. is_live p.status ≡ false)) (sym st.large) tt } in
-      told_whole (setting_of h) reached image known shows_reached vs_live (subst OnlyToldLive same only) ∙ ap live (sym same)
+  lives = told (setting_of h) reached image known shows_reached vs_live ∙ ap live (sym same)
 
   pub readable : IsReadable image
   readable = can_read (setting_of h) reached image known shows_reached vs_live

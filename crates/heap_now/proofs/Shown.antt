@@ -9,7 +9,7 @@ use Rattle.heap_model.specs.declared.Kind.TheVariants as kinds
 use Rattle.heap_model.specs.declared.Limits.{Limits}
 use Rattle.heap_model.specs.declared.Run.{Run}
 use Rattle.heap_model.specs.Runs as model
-use Rattle.heap_model.specs.State.{Area, GateAndLocks, Span, Place, is_kind, live_size, open_locks}
+use Rattle.heap_model.specs.State.{Area, GateAndLocks, Span, Place, by_address, is_kind, live_size, open_locks}
 use Rattle.heap_model.specs.Backend.{free_runs}
 use Rattle.heap_model.specs.Ranges.{gaps_of, vs_spans}
 use Rattle.heap_model.specs.CallState.{Configuration}
@@ -35,6 +35,7 @@ use Rattle.vs_split.specs.Shown.{place_from, place_to, gap_from, gap_to, place_h
 use Rattle.vs_layer.specs.Kept.{places_of}
 use Rattle.vs_layer.specs.Effects.{ShowsChunks}
 use Rattle.lfh_claims.specs.Kept.{spans_for}
+use Rattle.large_blocks.specs.Table.{LargeTable}
 use Rattle.layout_decode.specs.Shows.{Shows, ShowsFront, IsHintOf, run_of_span, unused_in}
 use Rattle.backend_fit.specs.Kept.{pages_in, is_block_run, block_runs, is_block_at}
 use Rattle.heap_now.specs.Standing.{LoneHeap, setting_of, front_of, IsFilledRun, Stands}
@@ -44,6 +45,11 @@ use Rattle.backend_fit.proofs.Rising.{is_at}
 use Rattle.heap_now.proofs.Known.{vs_known, vs_by_start}
 use Rattle.heap_now.proofs.StandFree.{place_found}
 use Rattle.heap_now.proofs.StandSearch.{subsegments_are}
+
+---- The image's table of large blocks has no row
+
+abbrev pub no_blocks : Limits → LargeTable
+no_blocks l = record { limits = l; blocks = [] }
 
 ---- Runs
 
@@ -173,7 +179,7 @@ module _ (h : LoneHeap) (m : Configuration) (st : Stands h m) (sound : IsSound h
       ∙ ap (λ (o : Option Place). shown_by g (units_by g o (gaps_of h.vs.spans qs)) (find (place_from g) ps) (gaps_of h.vs.spans qs)) to
       ∙ ap (λ (gs : List model.Run). shown_by g (units_by g (find (place_to g) ps) gs) (find (place_from g) ps) gs) gaps
 
-  pub shows : Shows (record { limits = h.limits; region = h.back.region; descs = h.back.words; key = key_of h.seed; heads = h.vs.chunks; words = h.lfh.words }) (setting_of h) m.state
+  pub shows : Shows (record { limits = h.limits; region = h.back.region; descs = h.back.words; key = key_of h.seed; heads = h.vs.chunks; large = no_blocks h.limits; words = h.lfh.words }) (setting_of h) m.state
   shows = record {
     limits = refl;
     key = refl;
@@ -190,6 +196,8 @@ module _ (h : LoneHeap) (m : Configuration) (st : Stands h m) (sound : IsSound h
     headers = λ g.
         ap (λ (o : Option Head). option_map_or (λ (x : Head). encoded x h.vs.chunks.key (16 * g)) o 0) (heads_shown g)
         ∙ ap (λ (key : ℕ). option_map_or (λ (x : Head). encoded x key (16 * g)) (head_shown (vs_spans m.state.back.area) m.state.vs.places g) 0) st.key;
+    large_limits = refl;
+    large = sym (ap by_address st.large);
     front = front_shown h m st;
     contents = subst (λ (l : Limits). AreShown h.lfh.words (data_region l) m.state.words) st.front_limits st.front.contents;
     gate = gate_shown h m st;

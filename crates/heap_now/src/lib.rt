@@ -28,6 +28,7 @@ ghost use Rattle.heap_now.specs.Standing.{LoneHeap, setting_of, Stands, IsBuilt,
 use crate::layers::{allocate_in, free_in, size_in};
 use backend_fit::Back;
 use heap_model::{Call, Limits, OutOfMemory, Reply};
+use large_blocks::Large;
 use layout_decode::Image;
 use lfh_claims::PlainLfh;
 use rand_pcg::Pcg32;
@@ -126,6 +127,8 @@ impl Solo {
         } = self;
         let (region, descs) = back.into_parts();
         let heads = vs.into_heads();
+        // no call places a large block
+        let large = Large::new(&limits);
         let words = lfh.into_words();
         let key = key_of(seed);
         Image {
@@ -134,6 +137,7 @@ impl Solo {
             descs,
             key,
             heads,
+            large,
             words,
         }
     }
