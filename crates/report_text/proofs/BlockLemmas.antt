@@ -1,13 +1,18 @@
 -- On the blocks at or after an address, among blocks in the order of their addresses.
-use Rattle.std.proofs.Common.{◌≡◌, ℕ, zero, suc, ◌+◌, ◌*◌, ◌<◌, ◌≤◌, List, [], ◌∷◌, ◌++◌, length, Some, None, refl, sym, ap, subst, arith, leb, inl, inr}
+use Rattle.std.proofs.Common.{◌≡◌, ℕ, zero, suc, ◌+◌, ◌*◌, ◌<◌, ◌≤◌, List, [], ◌∷◌, ◌++◌, length, map, Some, None, refl, sym, ap, subst, subst₂, arith, leb, inl, inr}
 use Rattle.std.specs.Prelude.{filter, flat_map}
 use Rattle.std.specs.List.{find, AllByRecursion}
 use Rattle.std.proofs.lemmas.Bool.{cases_Bool, le-leb, lt-leb, leb-true}
 use Rattle.heap_model.specs.declared.Block.{Block}
+use Rattle.heap_model.specs.declared.Limits.{Limits}
 use Rattle.heap_model.specs.declared.Kind.{Kind}
 use Rattle.heap_model.specs.declared.Kind.TheVariants as kinds
 use Rattle.heap_model.specs.declared.Run.{Run}
 use Rattle.heap_model.specs.Buckets.{block_count, block_address}
+use Rattle.large_blocks.specs.declared.LargeBlock.{LargeBlock}
+use Rattle.large_blocks.specs.Table.{block_in}
+use Rattle.large_blocks.specs.Sound.{page_of, end_of, AreLaid, IsSound}
+use Rattle.large_blocks.proofs.Laid.{some_pages}
 use Rattle.page_ranges.specs.Words.{runs_of}
 use Rattle.page_ranges.specs.Ranges.{AreRuns}
 use Rattle.page_ranges.proofs.Runs.{runs_le}
@@ -16,7 +21,7 @@ use Rattle.vs_split.specs.Chunks.{Chunks}
 use Rattle.vs_split.specs.Tiles.{IsTiled}
 use Rattle.vs_split.specs.Laws.{IsRow}
 use Rattle.layout_decode.specs.declared.Image.{Image}
-use Rattle.layout_decode.specs.Decode.{decode, head_told, blocks_of, blocks_at_bits, is_at_or_after, IsOfBucket, IsReadable}
+use Rattle.layout_decode.specs.Decode.{page_blocks, table_blocks, decode, head_told, blocks_of, blocks_at_bits, is_at_or_after, IsOfBucket, IsReadable}
 use Rattle.layout_decode.proofs.Images.{Each, each}
 use Rattle.layout_decode.proofs.OneRun.{IsReadableRun}
 use Rattle.layout_decode.proofs.SubsegmentLemmas.{none_or_one, seat_of}
@@ -42,6 +47,32 @@ lower low from high (b ∷ bs) l a = (omega (arith, a.0), a.1, a.2)
 append : (low mid high : ℕ) (xs ys : List Block) → low ≤ mid → mid ≤ high → AreOrdered low mid xs → AreOrdered mid high ys → AreOrdered low high (xs ++ ys)
 append low mid high [] ys l m a b = lower low mid high ys l b
 append low mid high (x ∷ xs) ys l m a b = (a.0, omega (arith, a.1), append (x.addr + 1) mid high xs ys (omega (arith, a.1)) m a.2 b)
+
+-- the address behind the large area, which lies behind the pages
+abbrev pub end_of_area : Image → ℕ
+end_of_area image = 4096 * (length image.descs + image.limits.large_pages)
+
+rows_ordered : (l : Limits) (from : ℕ) (bs : List LargeBlock) → AreLaid l from bs → AreOrdered (4096 * (256 * l.segments + from)) (4096 * (256 * l.segments + l.large_pages)) (map block_in bs)
+rows_ordered l from [] a = tt
+rows_ordered l from (b ∷ bs) a =
+    let at = a.0.aligned in
+    let behind = a.0.behind in
+    let inside = a.0.inside in
+    let some = some_pages b.size a.0.huge in
+    let rest = rows_ordered l (end_of l b) bs a.1 in (
+      low (page_of l b) behind at,
+      high (page_of l b) (end_of l b) (omega arith) inside at,
+      lower (b.addr + 1) (4096 * (256 * l.segments + end_of l b)) (4096 * (256 * l.segments + l.large_pages)) (map block_in bs) (next (page_of l b) (end_of l b) (omega arith) at) rest,
+    )
+  where
+    low : (p : ℕ) → from ≤ p → b.addr ≡ 4096 * (256 * l.segments + p) → 4096 * (256 * l.segments + from) ≤ b.addr
+    low p i e = omega arith
+
+    high : (p q : ℕ) → p < q → q ≤ l.large_pages → b.addr ≡ 4096 * (256 * l.segments + p) → b.addr < 4096 * (256 * l.segments + l.large_pages)
+    high p q i j e = omega arith
+
+    next : (p q : ℕ) → p < q → b.addr ≡ 4096 * (256 * l.segments + p) → b.addr + 1 ≤ 4096 * (256 * l.segments + q)
+    next p q i e = omega arith
 
 row_ordered : (v : Chunks) (t : IsTiled v) (prev g to : ℕ) (hs : List Head) → IsRow v prev g to hs → AreOrdered (16 * g) (16 * to) (row_blocks g hs)
 row_ordered v t prev g to [] row = tt
@@ -89,8 +120,16 @@ module _ (image : Image) (readable : IsReadable image) (t : IsTiled image.heads)
       let le = runs_le words (from + r.pages) to rs a.2 in
       append (4096 * from) (4096 * (from + r.pages)) (4096 * to) (blocks_of image r r.mark.kind) (flat_map (λ (x : Run). blocks_of image x x.mark.kind) rs) (omega arith) (omega arith) first (runs_ordered words (from + r.pages) to rs a.2 all.1)
 
-  blocks_ordered : AreOrdered 0 (4096 * length image.descs) (decode image)
-  blocks_ordered = runs_ordered image.descs 0 (length image.descs) (runs_of image.descs) readable.whole (each image readable)
+  pages_ordered : AreOrdered 0 (4096 * length image.descs) (page_blocks image)
+  pages_ordered = runs_ordered image.descs 0 (length image.descs) (runs_of image.descs) readable.whole (each image readable)
+
+  blocks_ordered : IsSound image.large → AreOrdered 0 (end_of_area image) (decode image)
+  blocks_ordered sound =
+      let l = image.large.limits in
+      let front : 4096 * (256 * l.segments + 0) ≡ 4096 * length image.descs = omega (arith, readable.pages, ap (λ (x : Limits). x.segments) readable.large) in
+      let end : 4096 * (256 * l.segments + l.large_pages) ≡ end_of_area image = omega (arith, readable.pages, ap (λ (x : Limits). x.segments) readable.large, ap (λ (x : Limits). x.large_pages) readable.large) in
+      let rows : AreOrdered (4096 * length image.descs) (end_of_area image) (table_blocks image.large) = subst₂ (λ (low high : ℕ). AreOrdered low high (table_blocks image.large)) front end (rows_ordered l 0 image.large.blocks sound.laid) in
+      append 0 (4096 * length image.descs) (end_of_area image) (page_blocks image) (table_blocks image.large) (omega arith) (omega arith) pages_ordered rows
 
 -- where all lie at or after two addresses, either gives the same
 all_behind : (low high from other : ℕ) (bs : List Block) → AreOrdered low high bs → from ≤ low → other ≤ low → blocks_from from bs ≡ blocks_from other bs
@@ -123,8 +162,12 @@ step_from low high from (x ∷ xs) b a f = elim (cases_Bool (leb from x.addr)) [
       (record { above = rest.0.above; below = rest.0.below; picked = rw (e, under) rest.0.picked }, omega (arith, a.0, rest.1))
 ]
 
-pub step : (image : Image) → IsReadable image → IsTiled image.heads → (from : ℕ) (b : Block) → Some b ≡ find (is_at_or_after from) (decode image) → Step (4096 * length image.descs) from (decode image) b
-step image readable t from b f = (step_from 0 (4096 * length image.descs) from (decode image) b (blocks_ordered image readable t) (sym f)).0
+pub step : (image : Image) → IsReadable image → IsTiled image.heads → IsSound image.large → (from : ℕ) (b : Block) → Some b ≡ find (is_at_or_after from) (decode image) → Step (end_of_area image) from (decode image) b
+step image readable t sound from b f = (step_from 0 (end_of_area image) from (decode image) b (blocks_ordered image readable t sound) (sym f)).0
+
+-- addresses have room for one more
+pub few_addresses : (image : Image) → IsReadable image → IsSound image.large → length image.descs ≤ 4096 → end_of_area image ≤ 33554432
+few_addresses image readable sound few = omega (arith, few, sound.limits.large_pages, ap (λ (x : Limits). x.large_pages) readable.large)
 
 none_from : (from : ℕ) (bs : List Block) → find (is_at_or_after from) bs ≡ None → blocks_from from bs ≡ []
 none_from from [] f = refl

@@ -2,3 +2,4 @@ pub mod ReplyLemmas
 pub mod LayoutLemmas
 pub mod BlockLemmas
 pub mod Ranges
+pub mod LargeLemmas

@@ -22,9 +22,10 @@ fn push_each(text: &mut String, image: &Image) -> Result<(), AllocError>
     requires { IsReadable image.now }
     ensures { OnOk result (string_bytes text.new ≡ string_bytes text.old ++ flat_map block_line (decode image.now)) }
 {
-    // addresses end with the pages, and chunks lie one behind the other
+    // addresses end with the large area, and chunks and large blocks lie one behind the other
     let _pages = image.descs.pages();
     let _chunk = image.heads.chunk_at(0);
+    let _rows = image.large.blocks();
     let mut from = 0;
     while let Some(block) = next_block(image, from) {
         push_block(text, &block)?;

@@ -8,6 +8,7 @@ ghost use Rattle.layout_decode.specs.Decode.{AreTold, IsReadable};
 
 use crate::{Answers, report};
 use heap_model::{Kind, Limits, Mark, OutOfMemory, Reply, Words};
+use large_blocks::Large;
 use layout_decode::Image;
 use page_ranges::Descs;
 use page_region::Region;
@@ -23,7 +24,7 @@ const KEY: u64 = 0x9e37_79b9_7f4a_7c3f;
 
 const ONE_SEGMENT: Limits = Limits {
     segments: 1,
-    large_pages: 0,
+    large_pages: 300,
     slots: 1,
     callers: 1,
 };
@@ -57,6 +58,7 @@ fn three_blocks<R: Abort>(rt: &R, alloc: Global) -> Result<Image, OutOfMemory>
     descs.mark(2, 16, Mark::VS);
     descs.mark(18, 33, BLOCK);
     descs.mark(51, 205, Mark::FREE);
+    let large = Large::new(&ONE_SEGMENT);
     let words = empty_words(alloc)?;
     let mut image = Image {
         limits: ONE_SEGMENT,
@@ -64,6 +66,7 @@ fn three_blocks<R: Abort>(rt: &R, alloc: Global) -> Result<Image, OutOfMemory>
         descs,
         key: KEY,
         heads,
+        large,
         words,
     };
     assert!(rt; could_cut(&mut image, 8240, 2, 0, true));
@@ -84,6 +87,7 @@ fn two_small_blocks<R: Abort>(rt: &R, alloc: Global) -> Result<Image, OutOfMemor
     descs.mark(2, 1, SUBSEGMENT);
     descs.mark(3, 33, BLOCK);
     descs.mark(36, 220, Mark::FREE);
+    let large = Large::new(&ONE_SEGMENT);
     let words = words_of_two_blocks(alloc)?;
     assert!(rt; are_small(&words));
     Ok(Image {
@@ -92,8 +96,20 @@ fn two_small_blocks<R: Abort>(rt: &R, alloc: Global) -> Result<Image, OutOfMemor
         descs,
         key: KEY,
         heads,
+        large,
         words,
     })
+}
+
+/// The image with one more large block, where it fits.
+fn with_large(image: Image, n: u64) -> Image
+    requires readable { IsReadable image }
+    requires large { 520193 ≤ n }
+    ensures { IsReadable result }
+{
+    let mut image = image;
+    let _addr = image.large.take(n);
+    image
 }
 
 /// The words of a heap in which no bucket is active.
@@ -157,6 +173,7 @@ fn could_cut(image: &mut Image, addr: u64, units: u16, unused: u8, busy: bool) -
     ensures descs { image.new.descs ≡ image.old.descs }
     ensures region { image.new.region ≡ image.old.region }
     ensures limits { image.new.limits ≡ image.old.limits }
+    ensures large { image.new.large ≡ image.old.large }
     ensures words { image.new.words ≡ image.old.words }
 {
     let Some(head) = image.heads.chunk_at(addr) else {
@@ -215,6 +232,21 @@ fn reports_two_small_blocks(rt: HostRuntime) -> Result<(), Fail> {
     let text = report(alloc, &script, &answers, &image)?;
     let lines =
         "0 0 alloc 8256\n0 0 alloc 12288\nsegment 0\nlfh 2 1 bucket 2 slot 0\nback 3 33\nfree 36 220 committed 15\nblock 8256 32 lfh\nblock 10304 17 lfh\nblock 12288 131073 back\nblocks 3 bytes 131122\n";
+    assert!(rt; text.as_bytes() == lines.as_bytes());
+    Ok(())
+}
+
+/// Large blocks have their lines behind the pages, and theirs among the blocks.
+#[test]
+fn reports_large_blocks(rt: HostRuntime) -> Result<(), Fail> {
+    let alloc = rt.alloc();
+    let script = read_script(alloc, b"").ok().ok_or("script")?;
+    let mut answers = Answers::new(alloc);
+    answers.add_round()?;
+    let image = with_large(with_large(two_small_blocks(&rt, alloc)?, 520_193), 600_000);
+    let text = report(alloc, &script, &answers, &image)?;
+    let lines =
+        "segment 0\nlfh 2 1 bucket 2 slot 0\nback 3 33\nfree 36 220 committed 15\nlarge 256 128\nlarge 384 147\nblock 8256 32 lfh\nblock 10304 17 lfh\nblock 12288 131073 back\nblock 1048576 520193 large\nblock 1572864 600000 large\nblocks 5 bytes 1251315\n";
     assert!(rt; text.as_bytes() == lines.as_bytes());
     Ok(())
 }

@@ -2,6 +2,7 @@ use Rattle.std.proofs.Common.{◌≡◌, ◌*◌, ℕ, length, sym, ap, ◌∙�
 use Rattle.std.proofs.lemmas.List.{length-replicate}
 use Rattle.heap_model.specs.declared.Limits.{Limits}
 use Rattle.page_region.specs.Held.{Held}
+use Rattle.large_blocks.specs.Table.{LargeTable}
 use Rattle.vs_split.specs.Chunks.{Chunks, head_at}
 use Rattle.vs_split.proofs.TileLemmas.{none_or_some}
 use Rattle.vs_split.proofs.TiledLemmas.{none_at}
@@ -32,6 +33,7 @@ returns g c =
     let same : image.descs ≡ words = c.could_cut-3.ensures.descs ∙ c.could_cut-2.ensures.descs ∙ c.could_cut.ensures.descs in
     let limits : image.limits ≡ ONE_SEGMENT = c.could_cut-3.ensures.limits ∙ c.could_cut-2.ensures.limits ∙ c.could_cut.ensures.limits in
     let region : image.region ≡ c.in_ok-region.region = c.could_cut-3.ensures.region ∙ c.could_cut-2.ensures.region ∙ c.could_cut.ensures.region in
+    let large : image.large ≡ c.new-large.result = c.could_cut-3.ensures.large ∙ c.could_cut-2.ensures.large ∙ c.could_cut.ensures.large in
     let table : image.words ≡ c.in_ok-words.words = c.could_cut-3.ensures.words ∙ c.could_cut-2.ensures.words ∙ c.could_cut.ensures.words in
     let len : length words ≡ 256 =
     c.mark-3.ensures.marked.same_length ∙ c.mark-2.ensures.marked.same_length ∙ c.mark.ensures.marked.same_length ∙ c.open_segment.ensures.marked.same_length ∙ ap length c.in_ok-descs.ensures.words ∙ length-replicate {A = ℕ} 256 0 in
@@ -48,5 +50,6 @@ returns g c =
         words = rw (limits, table) c.in_ok-words.ensures;
         segments = ap (λ (h : Held). h.segments) region ∙ c.in_ok-region.ensures ∙ sym (ap (λ (l : Limits). l.segments) limits);
         pages = ap length same ∙ len ∙ sym (ap (λ (l : Limits). 256 * l.segments) limits);
+        large = ap (λ (t : LargeTable). t.limits) large ∙ c.new-large.ensures.limits ∙ sym limits;
       };
     }
