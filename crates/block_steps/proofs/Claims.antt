@@ -29,14 +29,14 @@ use Rattle.claim_rule.proofs.Slots.{homes_still, homes_kept}
 use Rattle.claim_rule.proofs.Words.{all_same, all_kept}
 use Rattle.claim_rule.specs.Plays.{number_of}
 use Rattle.claim_rule.proofs.Advance.{before, acts, leaves, adds_of, setting_in, role_of, some_setting, owes_still, holder_behind, setting_back, seen_behind}
-use Rattle.step_parts.specs.Hands.{HasBlock}
-use Rattle.step_parts.proofs.Held.{placed_held}
+use Rattle.step_parts.specs.InHand.{HasBlock}
+use Rattle.step_parts.proofs.BlocksInHand.{placed_held}
 use Rattle.claim_rule.proofs.Gate.{one_by, one_follows}
 use Rattle.step_parts.specs.Claims.{CanClaim, MayClaim, owed_by_place, IsUnder}
 use Rattle.block_steps.specs.Claims.{claimed}
 use Rattle.block_steps.specs.Laws.{ClaimLaw}
-use Rattle.step_parts.proofs.Front.{front_here}
-use Rattle.step_parts.proofs.Lasting.{seen_still}
+use Rattle.step_parts.proofs.FrontEnd.{front_here}
+use Rattle.step_parts.proofs.Stays.{seen_still}
 use Rattle.step_parts.proofs.Placed.{claim_same, under_same, placed, lost, bit_is}
 
 module _ {T : Type 0} (stands : T → LayerState) (o : Opening) (slots id n head b t i : ℕ) (back : Bool) (hint : ℕ) (me : Me (Option T) View) (es : List Entry) (h : IsReady n me.0 es) (ft : t < 16)
@@ -137,6 +137,7 @@ module _ {T : Type 0} (stands : T → LayerState) (o : Opening) (slots id n head
         },
       )
 
+  -- the bit is set, and was 0 or 1
   pub claims : Claiming (bit_or found (bit_of_block i))
   claims = elim (cases_Bool (has_bit found (i % 64))) [ inl e ↦ miss e | inr e ↦ hit e ]
 

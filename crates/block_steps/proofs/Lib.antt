@@ -1,6 +1,6 @@
 pub mod Claims
-pub mod Sizes
+pub mod InHandWords
 pub mod SizeWords
-pub mod Blocks
-pub mod Calm
+pub mod BlockLaws
+pub mod Undisturbed
 pub mod Searches

@@ -41,12 +41,12 @@ use Rattle.step_parts.specs.Seen.{IsSeen}
 use Rattle.claim_rule.specs.Places.{word_at_page, hint_at}
 use Rattle.block_steps.specs.Searches.{MaySee, MayHint, IsHinted, saw, hinted}
 use Rattle.block_steps.specs.Laws.{SeeLaw, HintLaw}
-use Rattle.step_parts.proofs.Front.{IsFront, front_here, keeps_here, some_pages}
-use Rattle.step_parts.proofs.Blocks.{in_lfh, into_lfh, span_found}
+use Rattle.step_parts.proofs.FrontEnd.{IsFront, front_here, keeps_here, some_pages}
+use Rattle.step_parts.proofs.BlockWords.{in_lfh, into_lfh, span_found}
 use Rattle.step_parts.proofs.Filters.{into_filter}
 use Rattle.step_parts.proofs.Placed.{hint_head}
-use Rattle.step_parts.proofs.Lasting.{seen_still}
-use Rattle.block_steps.proofs.Calm.{IsSince, since}
+use Rattle.step_parts.proofs.Stays.{seen_still}
+use Rattle.block_steps.proofs.Undisturbed.{IsSince, since}
 
 -- a subsegment that was seen is among those of its bucket and slot
 pub among_seen : (m : Configuration) (head b t : ℕ) (z : IsSeen m head b t) → IsOneOf z.span (spans_of m.state.back.area b t)
@@ -126,6 +126,7 @@ module _ (l : Limits) (made : ℕ) (m : Configuration) (owes : List Owed) (words
       ∙ (ap (λ (z : ℕ × ℕ). bitmap_word m.state.lfh (lfh_spans m.state.back.area) z.0 z.1) (λ j. (page j, at j))
       ∙ ap (λ (o : Option Span). unwrap_or (Rattle.std.specs.Prelude.option_map (λ y. bits_of m.state.lfh y word) o) 0) (span_found l m.state.back.area m.state.lfh f x i k))
 
+  -- the word is that of the places
   pub bits_seen : (head b t : ℕ) → IsSeen m head b t → for_some (span_at m.state.back.area head) (λ x. get_or words (word_at_page l head word) 0 == bits_of m.state.lfh x word) ≡ true
   bits_seen head b t z =
       let p = in_lfh m.state.back.area.spans z.span z.there in
@@ -240,6 +241,7 @@ module _ (l : Limits) (s : Setting) (m : Configuration) (n b t : ℕ) (f : IsFro
           let i : IsOneOf x (spans_of m.state.back.area b t) = subst (IsOneOf x) (sym u) (inl refl) in
           let low = (seen_head (hint_word m.state.back.area m.now.span_history b t) (hint_head m b t x heads i)).1 in absurd (omega arith)
 
+  -- a hint of 0
   pub none_hinted : (word : ℕ) → word ≡ 0 → (word ≡ hint_word m.state.back.area m.now.span_history b t) ⊎ MayBeOld m b t word → (holds m.state.gate n whats.Back ≡ true → word ≡ hint_word m.state.back.area m.now.span_history b t)
       → list_all (λ x. is_another n (m.now.span_history.makers x.first)) (spans_of m.state.back.area b t) ≡ true
   none_hinted word z h own = ⊎_elim exact (λ (w : MayBeOld m b t word). ⊎_elim (made w) (λ (u : is_head m.state.back.area b t word ≡ true). absurd (let low = (seen_head word u).1 in omega arith)) w.2) h
@@ -263,6 +265,7 @@ module _ (l : Limits) (s : Setting) (m : Configuration) (n b t : ℕ) (f : IsFro
         | inr ne ↦ others w.0 (spans_of m.state.back.area b t) ne u.1
       ]
 
+  -- a hint that is not 0
   pub some_hinted : (word : ℕ) → (word ≡ 0 → ⊥) → (word ≡ hint_word m.state.back.area m.now.span_history b t) ⊎ MayBeOld m b t word → (holds m.state.gate n whats.Back ≡ true → word ≡ hint_word m.state.back.area m.now.span_history b t) → IsHinted m n b t word
   some_hinted word nz h own = ⊎_elim exact old h
     where
@@ -360,6 +363,7 @@ module _ {T : Type 0} (stands : T → LayerState) (o : Opening) (slots id n b t 
         },
       )
 
+  -- a hint is read
   pub reads_hint : Hinting
   reads_hint = elim (cases_eq hint_found 0) [ inl e ↦ misses e | inr ne ↦ finds ne ]
 

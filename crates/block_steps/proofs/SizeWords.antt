@@ -3,7 +3,6 @@ use Rattle.std.proofs.Common.{◌≡◌, ℕ, ◌+◌, ◌-◌, ◌*◌, ◌/◌
 use Rattle.std.specs.Prelude.{unwrap_or, option_map}
 use Rattle.std.specs.List.{find}
 use Rattle.std.proofs.lemmas.Bool.{cases_Bool, and_parts, and_from, eqb-true, false≢true}
-use mathlib.Core.Option.{some}
 use Rattle.heap_model.specs.declared.Act.TheVariants as acts
 use Rattle.heap_model.specs.declared.Kind.TheVariants as kinds
 use Rattle.heap_model.specs.declared.Layer.{Layer}
@@ -17,12 +16,12 @@ use Rattle.heap_soundness.specs.Invariant.{Keeps}
 use Rattle.heap_soundness.proofs.Lists.{all_at, any_found, found_in, found_passes}
 use Rattle.heap_soundness.proofs.Spans.{same_span}
 use Rattle.claim_rule.specs.Shown.{size_word}
-use Rattle.claim_rule.proofs.Advance.{before, acts}
-use Rattle.step_parts.proofs.Front.{IsFront, some_pages}
-use Rattle.step_parts.proofs.Blocks.{seat_at}
+use Rattle.claim_rule.proofs.Advance.{before}
+use Rattle.step_parts.proofs.FrontEnd.{IsFront, some_pages}
+use Rattle.step_parts.proofs.BlockWords.{seat_at}
 use Rattle.step_parts.proofs.Starts.{begins}
-use Rattle.step_parts.proofs.Hands.{lfh_address, size_is}
-use Rattle.step_parts.specs.Hands.{IsBlockNumber}
+use Rattle.step_parts.proofs.ChangedPlaces.{lfh_address, size_is}
+use Rattle.step_parts.specs.InHand.{IsBlockNumber}
 
 module _ (us : Setting) (m : Configuration) (k : Keeps us m) (f : IsFront us.limits m.state.back.area m.state.lfh) (x : Span) (there : IsOneOf x m.state.back.area.spans) (is : x.kind ≡ kinds.Lfh)
     (spot : ℕ) (low : x.first ≤ spot / 4096) (high : spot / 4096 < x.first + x.pages) (whole : spot % 16 ≡ 0) where
@@ -94,6 +93,7 @@ module _ (us : Setting) (m : Configuration) (k : Keeps us m) (f : IsFront us.lim
       by (Live size) h e = omega arith
       by (InHand c) h e = false≢true h
 
+  -- a size word of 0: no live block has the address
   pub not_live : (s : Setting) (n : ℕ) → is_entered m.state.gate n ≡ true → size_word m.state.lfh (spot / 16) ≡ 0 → may s m n (acts.NotLive spot) ≡ true
   not_live s n inside z =
       let a = none_live m.state.lfh (λ q j t live. live_word q j t live z) in
@@ -112,6 +112,7 @@ module _ (us : Setting) (m : Configuration) (k : Keeps us m) (f : IsFront us.lim
     pub starts : place.start ≡ spot
     pub live : place.status ≡ Live (word - 1)
 
+  -- another: a live block of that size begins there
   pub live_there : (word : ℕ) → size_word m.state.lfh (spot / 16) ≡ word → (word ≡ 0 → ⊥) → IsLiveThere word
   live_there word e nz = by (find (begins (16 * (spot / 16))) m.state.lfh) refl e
     where

@@ -13,9 +13,10 @@ use Rattle.claim_rule.specs.Plays.{Adds, number_of}
 use Rattle.claim_rule.specs.Entries.{IsSettingOf}
 use Rattle.heap_model.specs.History.{configuration_of}
 use Rattle.step_parts.specs.Seen.{IsSeen}
-use Rattle.step_parts.specs.Hands.{IsInHand, HasBlock, IsBlockNumber}
+use Rattle.step_parts.specs.InHand.{IsInHand, HasBlock, IsBlockNumber}
 use Rattle.heap_model.specs.Backend.{in_span}
 
+-- it is inside, and block i of a subsegment that it has seen is in its hand
 pub record MayClear (s : Setting) (m : Configuration) (n head b t i : ℕ) : Type 0 where
   pub inside : is_entered m.state.gate n ≡ true
   pub hand : IsInHand m n (block_address b head i)
@@ -23,6 +24,7 @@ pub record MayClear (s : Setting) (m : Configuration) (n head b t i : ℕ) : Typ
   pub below : i < block_count b
   pub ok : may s m n (acts.Drop (block_address b head i)) ≡ true
 
+-- the block is in its hand, and the size fits
 pub record MayPublish (s : Setting) (m : Configuration) (n addr size : ℕ) : Type 0 where
   pub hand : IsInHand m n addr
   pub ok : may s m n (acts.Give addr size) ≡ true
@@ -37,6 +39,7 @@ pub record MayAsk (m : Configuration) (n head b t addr : ℕ) : Type 0 where
   pub aligned : addr % 16 ≡ 0
 
 module _ {T : Type 0} (es : List Entry) (addr : ℕ) (st : Step (Option T)) (m : Me (Option T) View) (r : ℕ) (m' : Me (Option T) View) where
+  -- the block is in nobody's hand, and its bit is 0
   pub record cleared : Type 0 where
     pub adds : Adds es (acts.Drop addr) m m'
     pub slot : m'.1 ≡ m.1
@@ -54,11 +57,13 @@ module _ {T : Type 0} (es : List Entry) (addr : ℕ) (st : Step (Option T)) (m :
     pub slot : m'.1 ≡ m.1
     pub owes : m'.0.owes ≡ m.0.owes
 
+  -- what the word that was found tells of the address
   pub record sized : Type 0 where
     pub live : (r ≡ 0 → ⊥) → HasSize
     pub none : r ≡ 0 → HasNone
 
 module _ {T : Type 0} (es : List Entry) (addr size : ℕ) (st : Step (Option T)) (m : Me (Option T) View) (r : ℕ) (m' : Me (Option T) View) where
+  -- the block is live
   pub record published : Type 0 where
     pub adds : Adds es (acts.Give addr size) m m'
     pub slot : m'.1 ≡ m.1
@@ -73,6 +78,7 @@ module _ {T : Type 0} (es : List Entry) (head b addr : ℕ) (st : Step (Option T
     pub number : IsBlockNumber head b addr
     pub tells : (s : Setting) → IsSettingOf m'.0.opening m'.0.roll s → HasBlock (configuration_of s m'.0.seen) (number_of m.0.role) b addr
 
+  -- what the word that was found tells of the block
   pub record taken_block : Type 0 where
     pub live : (r ≡ 0 → ⊥) → HasTakenBlock
     pub none : r ≡ 0 → HasNone es addr st m r m'

@@ -11,7 +11,7 @@ use Rattle.claim_rule.specs.declared.views.View.{View}
 use Rattle.heap_model.specs.History.{configuration_of}
 use Rattle.claim_rule.specs.Entries.{IsSettingOf}
 use Rattle.claim_rule.specs.Plays.{Adds, number_of}
-use Rattle.step_parts.specs.Hands.{HasBlock}
+use Rattle.step_parts.specs.InHand.{HasBlock}
 use Rattle.step_parts.specs.Claims.{owed_by_place}
 
 module _ {T : Type 0} (es : List Entry) (head b t i : ℕ) (back : Bool) (hint : ℕ) (st : Step (Option T)) (m : Me (Option T) View) (r : ℕ) (m' : Me (Option T) View) where
@@ -28,6 +28,7 @@ module _ {T : Type 0} (es : List Entry) (head b t i : ℕ) (back : Bool) (hint :
     pub slot : m'.1 ≡ m.1
     pub owes : m'.0.owes ≡ m.0.owes
 
+  -- what the bit that was found tells
   pub record claimed : Type 0 where
     pub free : has_bit r (i % 64) ≡ false → HasClaimed
     pub taken : has_bit r (i % 64) ≡ true → HasLost

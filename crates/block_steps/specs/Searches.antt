@@ -26,6 +26,7 @@ pub record MaySee (s : Setting) (m : Configuration) (n head b t word : ℕ) : Ty
   pub old : holds_old_block m n ≡ true
 
 module _ {T : Type 0} (es : List Entry) (head word : ℕ) (st : Step (Option T)) (m : Me (Option T) View) (r : ℕ) (m' : Me (Option T) View) where
+  -- the word r was read in the search
   pub record saw : Type 0 where
     pub adds : Adds es (acts.Saw head word r) m m'
     pub slot : m'.1 ≡ m.1
@@ -47,12 +48,15 @@ pub record IsHinted (m : Configuration) (n b t head : ℕ) : Type 0 where
   pub right : (m.now.disturbed n ≡ true) ⊎ (hint m.state.back.area m.now.span_history b t ≡ Some head)
 
 module _ {T : Type 0} (es : List Entry) (b t : ℕ) (st : Step (Option T)) (m : Me (Option T) View) (r : ℕ) (m' : Me (Option T) View) where
+  -- a hint that is not 0 names a subsegment, from which the search may begin
   pub record HasHint : Type 0 where
     pub goes : Goes (number_of m.0.role) m.0 m'.0 es []
     pub slot : m'.1 ≡ m.1
     pub owes : m'.0.owes ≡ m.0.owes
+    -- what the word that was found tells
     pub hinted : (s : Setting) → IsSettingOf m'.0.opening m'.0.roll s → IsHinted (configuration_of s m'.0.seen) (number_of m.0.role) b t r
 
+  -- a hint of 0: the search finds no subsegment
   pub record HasNoHint : Type 0 where
     pub adds : Adds es (acts.NoHint b t) m m'
     pub slot : m'.1 ≡ m.1

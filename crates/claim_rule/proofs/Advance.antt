@@ -44,6 +44,7 @@ module _ {T : Type 0} (stands : T → LayerState) (o : Opening) where
   abbrev St : Type 0
   St = State (Option T) View
 
+  -- what the seat of a caller knows
   pub role_of : (st : St) (r : IsRuled stands o st) (id n : ℕ) (v : View) → get_elem? st.views id ≡ some v → v.role ≡ Caller n → KnowsAs o r.log r.lead r.top r.owner r.owes id v (Caller n)
   role_of st r id n v at is = subst (KnowsAs o r.log r.lead r.top r.owner r.owes id v) is (r.known id v at).role
 
@@ -66,6 +67,7 @@ module _ {T : Type 0} (stands : T → LayerState) (o : Opening) where
         let k = r.known id v at in
         subst (λ (a : Opening). IsSettingOf a v.roll s) (sym p.4) (setting_less o v.roll r.lead.roll s k.seen.roll_begins q)
 
+    -- what the caller alone decides is in the history as in what it has seen
     pub agrees : (s : Setting) → IsSettingOf o r.lead.roll s → AgreesFor n (configuration_of s r.log) (configuration_of s v.seen)
     agrees s q =
         let p = role_of st r id n v at h.role in
@@ -76,6 +78,7 @@ module _ {T : Type 0} (stands : T → LayerState) (o : Opening) where
         subst (λ (m : Configuration). AgreesFor n m (configuration_of s v.seen)) (sym (after-append s first_configuration v.seen k.seen.list_begins.0) ∙ ap (configuration_of s) k.seen.list_begins.1)
         (agrees_others s (configuration_of s v.seen) n k.seen.list_begins.0 (none_between n r.log v.seen k.seen.list_begins p.3) parts.1 (gate_sound_after s first_configuration v.seen parts.0 gate_sound_first))
 
+    -- what is so behind the carried entries, in each setting of the rule
     pub before : (s : Setting) → IsSettingOf o r.lead.roll s → IsBefore st r n v es s (configuration_after s (configuration_of s r.log) es)
     before s q =
         let p = role_of st r id n v at h.role in
@@ -99,6 +102,7 @@ module _ {T : Type 0} (stands : T → LayerState) (o : Opening) where
           owner = subst (λ (m : Configuration). caller_word m.state.gate.owner ≤ length r.lead.roll) (sym same) (owner_few s (length r.lead.roll) (r.log ++ es) names all);
         }
 
+    -- the carried entries are the caller's
     pub by : is_by n es ≡ true
     by =
         let q = some_setting v.opening v.roll in
@@ -176,6 +180,7 @@ module _ {T : Type 0} (stands : T → LayerState) (o : Opening) where
         let p = role_of st r id n v at h.role in
         subst (λ (z : Opening × List Assignment). IsSettingOf z.0 z.1 s) (λ i. ((a ∙ p.4) i, b i)) q
 
+    -- what the caller has seen then
     pub seen_behind : (w : View) (s : Setting) (ds : List Entry) → w.seen ≡ r.log ++ (es ++ ds) → configuration_of s w.seen ≡ configuration_after s (configuration_after s (configuration_of s r.log) es) ds
     seen_behind w s ds e = ap (configuration_of s) e ∙ (after-append s first_configuration r.log (es ++ ds) ∙ after-append s (configuration_of s r.log) es ds)
 

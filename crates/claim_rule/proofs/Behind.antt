@@ -11,7 +11,7 @@ use Rattle.std.specs.Prelude.{Bool}
 use Rattle.heap_model.specs.declared.What.{What}
 use Rattle.claim_rule.proofs.Quiet.{SameShown, same_shown}
 use Rattle.claim_rule.proofs.Words.{hint_same, lfh_same}
-use Rattle.claim_rule.proofs.Whats.{same_what, words_apart, lock_low, holder_here, holder_else}
+use Rattle.claim_rule.proofs.LockWords.{same_what, words_apart, lock_low, holder_here, holder_else}
 
 -- what the word j shows: the new value where it is the one that is written, else what it showed
 pub record Becomes (i v j new old : ℕ) : Type 0 where
@@ -38,6 +38,7 @@ pub record IsOwedSoundly (l : Limits) (m : Configuration) (owes : List Owed) : T
       ⊎ MayBeOld m b t (owed_or owes (118 + 16 * b + t) (hint_word m.state.back.area m.now.span_history b t))
   pub paid : m.state.gate.locks.back ≡ None → owes ≡ []
 
+-- where the words of the front end are shown, readers may go by them
 pub owed_by_front : (l : Limits) (m : Configuration) (owes : List Owed) (words : List ℕ) → LfhShown l m owes words → IsOwedSoundly l m owes
 owed_by_front l m owes words h = record {
   tags = λ page lt. let k = h.tags page lt in ⊎_elim (λ (z : get_or words (2182 + page) 0 ≡ tag_word (lfh_spans m.state.back.area) page). inl (sym k.0 ∙ z)) (λ (z : get_or words (2182 + page) 0 ≡ 0). inr (sym k.0 ∙ z)) k.1;
@@ -48,6 +49,7 @@ owed_by_front l m owes words h = record {
   paid = h.paid;
 }
 
+-- .. and where all are
 pub owed_soundly : (l : Limits) (made : ℕ) (m : Configuration) (owes : List Owed) (words : List ℕ) → AreAllShown l made m owes words → IsOwedSoundly l m owes
 owed_soundly l made m owes words h = owed_by_front l m owes words h.lfh
 
@@ -136,9 +138,11 @@ pub record SameFront (m' m : Configuration) : Type 0 where
   pub spans : lfh_spans m'.state.back.area ≡ lfh_spans m.state.back.area
   pub hints : (b t : ℕ) → hint_word m'.state.back.area m'.now.span_history b t ≡ hint_word m.state.back.area m.now.span_history b t
 
+-- where nothing that words show is another
 pub same_front : (m' m : Configuration) → SameShown m' m → m'.state.gate.locks.back ≡ m.state.gate.locks.back → HintsAreHeads m → SameFront m' m
 same_front m' m r back heads = record { lfh = r.lfh; words = r.words; active = r.active; spans = r.spans; hints = hint_same m' m r back heads }
 
+-- the parts of the words where a word before those of the front end is written
 pub low_behind : (l : Limits) (m' m : Configuration) (owes : List Owed) (i v : ℕ) → i < 6 → SameFront m' m → Becomes i v 1 (gate_word m'.state.gate) (gate_word m.state.gate)
     → ((what : What) → IsLayerLock what → Becomes i v (lock_at what) (caller_word (holder_of m'.state.gate.locks what)) (caller_word (holder_of m.state.gate.locks what))) → IsBehind l m' m owes owes i v
 low_behind l m' m owes i v lt r gate locks = record {

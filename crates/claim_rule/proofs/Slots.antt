@@ -13,7 +13,7 @@ use Rattle.heap_model.specs.Legal.{with_holder}
 use Rattle.heap_model.specs.Agreement.{AgreesFor}
 use Rattle.heap_model.specs.Layers.{LayerState, sorted_vs, sorted_back}
 use Rattle.claim_rule.specs.Home.{slot_of, HasSlot, Tells, AreHome}
-use Rattle.claim_rule.proofs.Whats.{same_what, slots_apart, slot_low, of_layer, holder_here, holder_else}
+use Rattle.claim_rule.proofs.LockWords.{same_what, slots_apart, slot_low, of_layer, holder_here, holder_else}
 
 ---- What a lock guards
 
@@ -28,6 +28,7 @@ SameGuarded _ m n = Unit {0}
 abbrev pub guarded : State → VsPart × BackPart × List Place
 guarded st = (st.vs, st.back, st.large)
 
+-- where all that locks guard is the same, what each guards is
 pub same_guarded : (m n : State) → guarded m ≡ guarded n → (what : What) → SameGuarded what m n
 same_guarded m n e whats.Vs = (ap (λ (g : VsPart × BackPart × List Place). g.0) e, ap (λ (g : VsPart × BackPart × List Place). vs_spans g.1.area) e)
 same_guarded m n e whats.Back = ap (λ (g : VsPart × BackPart × List Place). g.1) e
@@ -58,9 +59,11 @@ held_guarded n whats.Large m k r hold = r.large hold
 held_guarded n whats.Gate m k r hold = tt
 held_guarded n whats.Lfh m k r hold = tt
 
+-- the gate and the locks are no part of what a state tells
 pub tells_gate : (what : What) (o : Opening) (st : State) (f : GateAndLocks) (t : LayerState) → Tells what o st t → Tells what o (record st { gate = f }) t
 tells_gate what o st f t h = tells_guarded what o (record st { gate = f }) st t (same_guarded (record st { gate = f }) st refl what) h
 
+-- what the state of a lock that the caller holds tells, in the history as in what the caller knows
 pub tells_same : (n : ℕ) (what : What) (o : Opening) (m k : Configuration) (t : LayerState) → AgreesFor n m k → held (caller_view k n) what ≡ true → Tells what o k.state t → Tells what o m.state t
 tells_same n what o m k t r hold h = tells_guarded what o m.state k.state t (held_guarded n what m k r hold) h
 
@@ -79,6 +82,7 @@ homes_still m n e g = record { locks = e; guarded = λ what q free. same_guarded
 pub homes_but : (m n : State) (mine : What) → m.gate.locks ≡ n.gate.locks → (holder_of n.gate.locks mine ≡ None → ⊥) → ((what : What) → HasSlot what → (what ≡ mine → ⊥) → SameGuarded what m n) → SameHomes m n
 homes_but m n mine e taken g = record { locks = e; guarded = λ what q free. g what q (λ same. taken (ap (holder_of n.gate.locks) (sym same) ∙ free)) }
 
+-- one after another
 pub same_homes_trans : (m n o : State) → SameHomes m n → SameHomes n o → SameHomes m o
 same_homes_trans m n o p q = record {
   locks = p.locks ∙ q.locks;
@@ -89,6 +93,7 @@ module _ {T : Type 0} (stands : T → LayerState) (o : Opening) where
   abbrev pub Homes : Type 0
   Homes = List (mathlib.Core.Option.Option (Option T))
 
+  -- the same slots are home
   pub homes_kept : (m n : State) (homes : Homes) → SameHomes m n → AreHome stands o n homes → AreHome stands o m homes
   homes_kept m n homes r h = record {
     deep = h.deep;

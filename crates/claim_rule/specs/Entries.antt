@@ -23,6 +23,7 @@ slot_at [] c = 0
 slot_at (x ∷ xs) zero = x.slot
 slot_at (x ∷ xs) (suc c) = slot_at xs c
 
+-- the stream of its draws
 abbrev pub stream_at : List Assignment → ℕ → ℕ
 stream_at [] c = 0
 stream_at (x ∷ xs) zero = x.stream
@@ -40,6 +41,7 @@ pub record IsSettingOf (o : Opening) (roll : List Assignment) (s : Setting) : Ty
   pub slot : (c : ℕ) → c < length roll → s.slot c ≡ slot_at roll c
   pub stream : (c : ℕ) → c < length roll → s.stream c ≡ stream_at roll c
 
+-- the list is legal in each setting of these callers
 abbrev pub IsLegalWith : Opening → List Assignment → List Entry → Type 0
 IsLegalWith o roll es = (s : Setting) → IsSettingOf o roll s → is_legal s es ≡ true
 
@@ -48,6 +50,7 @@ abbrev pub have_slots : ℕ → List Assignment → Bool
 have_slots slots [] = true
 have_slots slots (x ∷ xs) = nat_lt x.slot slots && have_slots slots xs
 
+-- an entry of a caller
 abbrev pub entry : ℕ → Act → Entry
 entry n a = record { caller = n; act = a }
 
@@ -61,6 +64,7 @@ abbrev pub is_named : ℕ → List Entry → Bool
 is_named m [] = true
 is_named m (e ∷ es) = nat_lt e.caller m && is_named m es
 
+-- the place is one of the front end
 abbrev pub is_of_lfh : Option Place → Bool
 is_of_lfh o = for_some o (λ p. is_layer p.layer layers.Lfh)
 

@@ -1,5 +1,5 @@
 -- The laws, in words of the table: a step that is allowed keeps the rule whatever the table is by then, and tells its seat what its kind says.
-use Rattle.std.specs.Prelude.{◌≡◌, ℕ, ◌+◌, ◌-◌, ◌*◌, ◌%◌, ◌^◌, ◌<◌, ◌≤◌, ◌⊎◌, true, eqb, List, [], ◌∷◌, ◌++◌, length, set, Option, Some}
+use Rattle.std.specs.Prelude.{◌≡◌, ℕ, ◌+◌, ◌-◌, ◌*◌, ◌%◌, ◌^◌, ◌<◌, ◌≤◌, ◌⊎◌, true, false, eqb, List, [], ◌∷◌, ◌++◌, length, set, slice_index, Option, Some, None}
 use mathlib.Core.Option.{none, some}
 use lib.ListN.{get_elem?}
 use prog.Atomic.{either}
@@ -17,8 +17,9 @@ use Rattle.claim_rule.specs.declared.views.Lead.{Lead}
 use Rattle.claim_rule.specs.declared.views.Owed.{Owed}
 use Rattle.claim_rule.specs.declared.views.Role.TheVariants.{Caller, Root}
 use Rattle.claim_rule.specs.declared.views.View.{View}
-use Rattle.claim_rule.specs.Places.{Fill, regions, word_count, gate_at, made_word}
-use Rattle.claim_rule.specs.Shown.{AreAllShown, back_holder}
+use Rattle.claim_rule.specs.Places.{Fill, regions, word_count, gate_at, made_word, tag_at, hint_at}
+use Rattle.heap_model.specs.Search.{spans_of}
+use Rattle.claim_rule.specs.Shown.{AreAllShown, back_holder, HintShown, HintsAreHeads, is_head, are_made_by, lfh_spans, tag_word, hint_word}
 use Rattle.heap_model.specs.Layers.{LayerState, StandsForVs, StandsForBack, StandsForLarge}
 use Rattle.claim_rule.specs.Home.{AreHome}
 use Rattle.claim_rule.specs.Entries.{IsSettingOf, is_by, are_prepared}
@@ -34,6 +35,22 @@ RegionsFill = (l : Limits) → Fill 0 (regions l) (word_count l)
 abbrev pub LargestCount : Type 0
 LargestCount = word_count (record { segments = 16; large_pages = 4096; slots = 16; callers = 64 }) ≡ 5265542
 
+-- A hint of 0 is shown only where it may be read: there is no subsegment of the bucket and the slot, or the holder of Back has made all of them since it took
+-- the lock. (No subsegment begins at page 0.)
+abbrev pub ZeroHintLaw : Type 0
+ZeroHintLaw =
+    (m : Configuration) (owes : List Owed) (b t : ℕ) → HintsAreHeads m → is_head m.state.back.area b t 0 ≡ false → HintShown m owes b t 0
+    → (spans_of m.state.back.area b t ≡ []) ⊎ ((d : ℕ) × (m.state.gate.locks.back ≡ Some d) × (are_made_by m.state.back.area m.now.span_history d b t ≡ true))
+
+-- While nobody holds Back each tag and each hint is that of the state: whoever gave the lock back has stored all that it owed.
+pub record AreExact (l : Limits) (m : Configuration) (words : List ℕ) : Type 0 where
+  pub tags : (page : ℕ) → page < 256 * l.segments → slice_index words (tag_at page) ≡ tag_word (lfh_spans m.state.back.area) page
+  pub hints : (b t : ℕ) → 1 ≤ b → b ≤ 128 → t < 16 → slice_index words (hint_at b t) ≡ hint_word m.state.back.area m.now.span_history b t
+
+-- the law of it
+abbrev pub FreeWordsLaw : Type 0
+FreeWordsLaw = (l : Limits) (made : ℕ) (m : Configuration) (owes : List Owed) (words : List ℕ) → AreAllShown l made m owes words → m.state.gate.locks.back ≡ None → AreExact l m words
+
 module _ {T : Type 0} (stands : T → LayerState) where
   -- What c has prepared in n may come in each m that agrees with n on what c alone decides. It changes neither the gate nor a lock,
   -- and words and slots that showed m show what is behind it.
@@ -45,6 +62,7 @@ module _ {T : Type 0} (stands : T → LayerState) where
     pub words : (l : Limits) (made : ℕ) (owes : List Owed) (words : List ℕ) → AreAllShown l made m owes words → AreAllShown l made (configuration_after s m es) owes words
     pub homes : (o : Opening) (homes : List (mathlib.Core.Option.Option (Option T))) → AreHome stands o m.state homes → AreHome stands o (configuration_after s m es).state homes
 
+  -- what a caller has prepared is carried through whatever others did
   abbrev pub PreparedIsCarried : Type 0
   PreparedIsCarried =
       (s : Setting) (c : ℕ) (m n : Configuration) (es : List Entry) → AgreesFor c m n → m.now.demand ≡ n.now.demand → are_prepared s n c es ≡ true → IsCarriedThrough s c m n es

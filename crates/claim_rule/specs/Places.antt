@@ -9,12 +9,15 @@ pub record Region : Type 0 where
   pub from : ℕ
   pub words : ℕ
 
+-- the word of the number of callers that were made
 abbrev pub made_word : ℕ
 made_word = 0
 
+-- the word of the gate
 abbrev pub gate_at : ℕ
 gate_at = 1
 
+-- the word of a lock
 abbrev pub lock_at : What → ℕ
 lock_at whats.Gate = gate_at
 lock_at whats.Lfh = 2
@@ -27,6 +30,7 @@ abbrev pub IsLayerLock : What → Type 0
 IsLayerLock whats.Gate = ⊥
 IsLayerLock _ = Unit {0}
 
+-- the regions of the words, in their order
 abbrev pub made_region : Region
 made_region = record { from = 0; words = 1 }
 
@@ -60,9 +64,11 @@ sizes_region l = record { from = 2182 + 1280 * l.segments; words = 65536 * l.seg
 abbrev pub data_region : Limits → Region
 data_region l = record { from = 2182 + 66816 * l.segments; words = 131072 * l.segments + 512 * l.large_pages }
 
+-- how many words there are
 abbrev pub word_count : Limits → ℕ
 word_count l = 2182 + 197888 * l.segments + 512 * l.large_pages
 
+-- all regions
 abbrev pub regions : Limits → List Region
 regions l =
     made_region ∷ gate_region ∷ locks_region ∷ active_region ∷ hints_region ∷ tags_region l ∷ bitmaps_region l ∷ sizes_region l ∷ data_region l ∷ []
@@ -82,6 +88,7 @@ back_slot = 1
 abbrev pub large_slot : ℕ
 large_slot = 2
 
+-- how many slots there are
 abbrev pub slot_count : ℕ
 slot_count = 3
 
@@ -107,6 +114,7 @@ word_at_page l head w = 2182 + 256 * l.segments + (4 * head + w)
 abbrev pub bitmap_at : Limits → ℕ → ℕ → ℕ
 bitmap_at l head i = 2182 + 256 * l.segments + (4 * head + i / 64)
 
+-- the bit of block i in its word of the bitmap
 abbrev pub bit_of_block : ℕ → ℕ
 bit_of_block i = 1 * 2 ^ (i % 64) % 2 ^ 64
 
@@ -118,5 +126,6 @@ size_at l addr = 2182 + 1280 * l.segments + addr / 16
 abbrev pub data_at : Limits → ℕ → ℕ
 data_at l w = 2182 + 66816 * l.segments + w
 
+-- how many data words there are
 abbrev pub data_count : Limits → ℕ
 data_count l = 131072 * l.segments + 512 * l.large_pages

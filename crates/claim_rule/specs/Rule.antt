@@ -46,6 +46,7 @@ module _ (o : Opening) (log : List Entry) (lead : Lead) where
         (q ≡ lead) × (top ≡ seat) × ((n : ℕ) → is_among n lead.joined ≡ true → (lead.last ≡ n + 1) ⊎ (own n log ≡ own n v.seen))
         × ((n : ℕ) → lead.last ≡ n + 1 → (is_among n lead.joined ≡ true) × (own n log ≡ own n v.heard)) × (v.opening ≡ o)
 
+    -- what a seat knows: two beginnings of the history, and what its role says
     pub record Knows (v : View) : Type 0 where
       pub seen : IsSeen v.roll v.seen
       pub heard : IsSeen v.heard_roll v.heard
@@ -53,6 +54,7 @@ module _ (o : Opening) (log : List Entry) (lead : Lead) where
 
 ---- The rule
 
+-- no number twice
 abbrev pub are_distinct : List ℕ → Bool
 are_distinct [] = true
 are_distinct (n ∷ ns) = not (is_among n ns) && are_distinct ns
@@ -74,6 +76,7 @@ module _ {T : Type 0} (stands : T → LayerState) (o : Opening) (st : State (Opt
     pub words : AreAllShown o.limits counted (configuration_of s log) owes st.words
     pub home : AreHome stands o (configuration_of s log).state st.homes
 
+  -- There is a history that is legal in each setting of its callers, shown by the words and the slots, and known to the seats.
   pub record IsRuled : Type 0 where
     pub log : List Entry
     pub lead : Lead
@@ -90,6 +93,7 @@ zero_words n = replicate n 0
 
 ---- The views of seats
 
+-- what the root of a new table knows
 abbrev pub first_lead : Lead
 first_lead = record { counted = 0; roll = []; joined = []; lists = []; last = 0 }
 
@@ -97,9 +101,11 @@ abbrev pub view_of : Opening → Role → List Assignment → List Entry → Lis
 view_of o role roll seen heard_roll heard owes =
     record { role = role; opening = o; roll = roll; seen = seen; heard_roll = heard_roll; heard = heard; owes = owes }
 
+-- the view of the first seat
 abbrev pub first_view : Opening → View
 first_view o = view_of o (Root first_lead) [] [] [] [] []
 
+-- the view of a seat that was joined to another
 abbrev pub spent_view : View
 spent_view = view_of (record { limits = record { segments = 0; large_pages = 0; slots = 0; callers = 0 }; seed = 0 }) Nobody [] [] [] [] []
 
@@ -107,21 +113,26 @@ spent_view = view_of (record { limits = record { segments = 0; large_pages = 0; 
 abbrev pub relay : View → View
 relay v = view_of v.opening Nobody v.roll v.seen [] [] []
 
+-- one caller more has a seat
 abbrev pub next_lead : Assignment → Lead → Lead
 next_lead a q = record { counted = q.counted; roll = q.roll ++ a ∷ []; joined = q.joined; lists = q.lists; last = q.last }
 
+-- the role of the root that gives a seat away
 abbrev pub dealing_role : Assignment → Role → Role
 dealing_role a (Root q) = Root (next_lead a q)
 dealing_role a _ = Nobody
 
+-- the role of the new seat
 abbrev pub dealt_role : Role → Role
 dealt_role (Root q) = Caller (length q.roll)
 dealt_role _ = Nobody
 
+-- what the callers were made with, as the root knows
 abbrev pub roll_of : Role → List Assignment
 roll_of (Root q) = q.roll
 roll_of _ = []
 
+-- the root's view then
 abbrev pub dealing : Assignment → View → View
 dealing a v = view_of v.opening (dealing_role a v.role) v.roll v.seen v.heard_roll v.heard v.owes
 

@@ -1,6 +1,6 @@
 //! The laws of the rule, each the contract of a function that does nothing.
 
-ghost use Rattle.claim_rule.specs.Laws.{RegionsFill, LargestCount, PreparedIsCarried, ActsLaw, OpenLaw, SplitLaw, JoinLaw, LoadLaw, NumberLaw, EnterLaw, LeaveLaw, LockLaw, UnlockLaw};
+ghost use Rattle.claim_rule.specs.Laws.{RegionsFill, LargestCount, ZeroHintLaw, FreeWordsLaw, PreparedIsCarried, ActsLaw, OpenLaw, SplitLaw, JoinLaw, LoadLaw, NumberLaw, EnterLaw, LeaveLaw, LockLaw, UnlockLaw};
 
 use heap_model::Stands;
 
@@ -12,6 +12,16 @@ pub fn regions_fill()
 /// The largest limits need 5,265,542 words.
 pub fn largest_count()
     ensures { LargestCount }
+{}
+
+/// A hint of 0 is shown only where there is no subsegment, or where the holder of the back end's lock has made all since it took it.
+pub fn zero_hint_is_read_rightly()
+    ensures { ZeroHintLaw }
+{}
+
+/// While nobody holds the back end's lock, each tag and each hint is that of the state.
+pub fn free_words_are_exact()
+    ensures { FreeWordsLaw }
 {}
 
 /// What a caller has prepared may come behind whatever others did meanwhile, and no word and no slot at home shows it.

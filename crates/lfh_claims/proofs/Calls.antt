@@ -20,7 +20,7 @@ use Rattle.lfh_claims.specs.Kept.{LfhKept, LfhPart, StandsFor, IsSubsegment, IsB
 use Rattle.step_parts.specs.Starts.{HaveOwnStarts}
 use Rattle.lfh_claims.proofs.Regions.{other_word, outside, inside}
 use Rattle.step_parts.proofs.Starts.{begins, found_by_start, removed_by_start, changed_by_start, any_removed_other, any_removed_same, found_removed_other, own_removed, any_changed, found_changed_other, found_changed_same, own_changed}
-use Rattle.step_parts.proofs.Bits.{cleared, same_word_of, word_cleared}
+use Rattle.step_parts.proofs.BitmapWords.{cleared, same_word_of, word_cleared}
 use Rattle.lfh_claims.proofs.Seats.{Seat, seat, seat_of, one_block, bucket_is, all_of_lfh}
 use Rattle.lfh_buckets.proofs.BlockLemmas.{few_blocks}
 use Rattle.search_laws.proofs.Passes.{found_there}

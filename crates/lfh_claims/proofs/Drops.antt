@@ -6,7 +6,7 @@ use Rattle.heap_model.specs.State.{Span, Place}
 use Rattle.claim_rule.specs.Shown.{tag_of}
 use Rattle.lfh_buckets.specs.Blocks.{IsBucket, IsBlockAt}
 use Rattle.lfh_claims.specs.Kept.{LfhKept, LfhPart, StandsFor, HasBlock, without_block}
-use Rattle.step_parts.proofs.Bits.{cleared}
+use Rattle.step_parts.proofs.BitmapWords.{cleared}
 use Rattle.lfh_claims.proofs.Seats.{Seat, seat, bucket_is}
 use Rattle.lfh_claims.proofs.Calls.{tag_bucket, tag_first, few, long, size_long, drop_stands}
 

@@ -20,7 +20,7 @@ use Rattle.lfh_claims.specs.Kept.{LfhKept, LfhPart, StandsFor, IsSubsegment, IsB
 use Rattle.step_parts.specs.Starts.{HaveOwnStarts}
 use Rattle.lfh_claims.proofs.Regions.{other_word, outside, inside}
 use Rattle.step_parts.proofs.Starts.{begins}
-use Rattle.step_parts.proofs.Bits.{with_bit, same_word_of, word_with}
+use Rattle.step_parts.proofs.BitmapWords.{with_bit, same_word_of, word_with}
 use Rattle.lfh_buckets.proofs.Seats.{IsSeat}
 use Rattle.lfh_claims.proofs.Seats.{seat_of, one_block, bucket_is}
 use Rattle.search_laws.proofs.Passes.{found_there}

@@ -46,6 +46,7 @@ module _ {T : Type 0} (stands : T → LayerState) (o : Opening) (slots id n : �
 
   ---- Data words
 
+  -- a data word is loaded
   pub loads_data : (w : ℕ) → w < data_count o.limits → ((s : Setting) → IsSettingOf me.0.opening me.0.roll s → IsInside (ready_after s me.0 es) n)
       → Storing (loaded es w (step slots (data_at o.limits w) 0 0 none) me) (data_at o.limits w) (get_or st.words (data_at o.limits w) 0) (get_or st.words (data_at o.limits w) 0)
   loads_data w lt ok =
@@ -81,6 +82,7 @@ module _ {T : Type 0} (stands : T → LayerState) (o : Opening) (slots id n : �
     };
   }
 
+  -- a data word is stored
   pub stores_data : (w v : ℕ) → w < data_count o.limits → ((s : Setting) → IsSettingOf me.0.opening me.0.roll s → IsInside (ready_after s me.0 es) n)
       → Storing (λ z m'. stored es w (step slots (data_at o.limits w) v 0 none) me v m') (data_at o.limits w) v v
   stores_data w v lt ok =

@@ -41,9 +41,10 @@ use Rattle.lock_steps.specs.Locks.{owed_with, IsPaid, MayTake, MayGiveBack, took
 use Rattle.claim_rule.proofs.Behind.{stays, IsBehind, IsOwedSoundly, owed_soundly, shown_behind, none_owed, still_owed, low_behind, lock_changes}
 use Rattle.claim_rule.proofs.Ready.{stable_here, holder_is_it}
 use Rattle.claim_rule.proofs.Slots.{tells_gate, tells_same, slot_same, homes_taken, homes_given}
-use Rattle.claim_rule.proofs.Whats.{lock_low, of_layer}
+use Rattle.claim_rule.proofs.LockWords.{lock_low, of_layer}
 use Rattle.heap_model.specs.Search.{hint_or, first_of, spans_of}
 
+-- what the caller may take in what it knows it may take in the history
 pub take_same : (n : ℕ) (what : What) (m k : Configuration) → AgreesFor n m k → MayTake k n what → MayTake m n what
 take_same n what m k r h =
     let v = caller_view_same n m k r in
@@ -220,6 +221,7 @@ module _ {T : Type 0} (stands : T → LayerState) (o : Opening) where
         owed_behind s whats.Gate q free f = absurd q
         owed_behind s whats.Lfh q free f = absurd q
 
+    -- a lock is taken, or another's
     pub takes_lock : Taking what slots id n me es st (either (eqb found 0) (n + 1) found)
     takes_lock = exchanged found 0 (n + 1) (Taking what slots id n me es st) hit miss
 
@@ -280,6 +282,7 @@ module _ {T : Type 0} (stands : T → LayerState) (o : Opening) where
     hints_on s whats.Gate q b t = absurd q
     hints_on s whats.Lfh q b t = absurd q
 
+    -- a lock is given back
     pub gives_lock : (w : View) × (a : Act (Option T)) × Valid st.homes me.1 a × IsRuled stands o (stepped st (lock_at what) 0 id me.1 w a) × gave what es (step slots (lock_at what) 0 0 none) me 0 (w, carried_after me.1 a)
     gives_lock =
         let low = lock_low what (of_layer what has) in
@@ -308,6 +311,7 @@ module _ {T : Type 0} (stands : T → LayerState) (o : Opening) where
       owing_denied whats.Gate q = absurd q
       owing_denied whats.Lfh q = absurd q
 
+      -- both entries are added with one step
       pub gives_denied : (w : View) × (a' : Act (Option T)) × Valid st.homes me.1 a' × IsRuled stands o (stepped st (lock_at what) 0 id me.1 w a') × Goes (number_of me.0.role) me.0 w es (entry (number_of me.0.role) (acts.NotLive a) ∷ entry (number_of me.0.role) (acts.GiveLock what) ∷ []) × (w.owes ≡ me.0.owes) × (carried_after me.1 a' ≡ rest me.1)
       gives_denied =
           let low = lock_low what (of_layer what has) in

@@ -32,6 +32,7 @@ pub record MayTake (m : Configuration) (n : ℕ) (what : What) : Type 0 where
   pub inside : is_inside (caller_view m n) ≡ true
   pub free : held (caller_view m n) what ≡ false
 
+-- it holds the lock, and may give it back
 pub record MayGiveBack (m : Configuration) (n : ℕ) (what : What) : Type 0 where
   pub begun : is_some (m.now.calls n).call ≡ true
   pub may : may_give_lock m.state (caller_view m n) what ≡ true
@@ -51,11 +52,13 @@ module _ {T : Type 0} (stands : T → LayerState) (what : What) (es : List Entry
     pub slot : m'.1 ≡ m.1
     pub owes : m'.0.owes ≡ m.0.owes
 
+  -- what the word that was found tells
   pub record took : Type 0 where
     pub taken : r ≡ 0 → HasTaken
     pub missed : (r ≡ 0 → ⊥) → HasMissed
 
 module _ {T : Type 0} (what : What) (es : List Entry) (st : Step (Option T)) (m : Me (Option T) View) (r : ℕ) (m' : Me (Option T) View) where
+  -- the lock is free, and the state is in its slot
   pub record gave : Type 0 where
     pub adds : Adds es (acts.GiveLock what) m m'
     pub slot : (state : T) (more : List (ℕ × Option T)) → m.1 ≡ (slot_of what, Some state) ∷ more → m'.1 ≡ more

@@ -28,10 +28,10 @@ use Rattle.claim_rule.proofs.Advance.{before, acts, adds_of, setting_in}
 use Rattle.claim_rule.proofs.Gate.{one_by, one_follows, out_same}
 use Rattle.look_steps.specs.Denials.{MayDeny, denied, denied_left}
 use Rattle.look_steps.specs.Laws.{DenyLaw, DenyGiveLaw, DenyLeaveLaw}
-use Rattle.step_parts.proofs.Front.{keeps_here, usual}
-use Rattle.step_parts.proofs.Lasting.{still_there}
+use Rattle.step_parts.proofs.FrontEnd.{keeps_here, usual}
+use Rattle.step_parts.proofs.Stays.{still_there}
 use Rattle.lock_steps.proofs.Locks.{view_denied, gives_denied}
-use Rattle.look_steps.proofs.Denied.{denied_ok}
+use Rattle.look_steps.proofs.NoLiveBlock.{denied_ok}
 
 module _ {T : Type 0} (stands : T → LayerState) (o : Opening) (slots id n a : ℕ) (me : Me (Option T) View) (es : List Entry) (h : IsReady n me.0 es)
     (ok : (s : Setting) → IsSettingOf me.0.opening me.0.roll s → MayDeny o.limits (ready_after s me.0 es) n a)
@@ -42,6 +42,7 @@ module _ {T : Type 0} (stands : T → LayerState) (o : Opening) (slots id n a : 
   abbrev deed : Deed
   deed = acts.NotLive a
 
+  -- the denial may come in the history
   pub not_there : (s : Setting) → IsSettingOf o r.lead.roll s → may s (now_at s) n deed ≡ true
   not_there s q =
       let d = before stands o st r id n me.0 es at h s q in
@@ -51,6 +52,7 @@ module _ {T : Type 0} (stands : T → LayerState) (o : Opening) (slots id n a : 
   begun_here : (s : Setting) → IsSettingOf o r.lead.roll s → is_some ((now_at s).now.calls n).call ≡ true
   begun_here s q = ap (λ (c : CallState). is_some c.call) (before stands o st r id n me.0 es at h s q).carried.agrees.call ∙ (ok s (setting_in stands o st r id n me.0 es at h s q)).begun
 
+  -- with a load
   pub denies : (i : ℕ) → (w : View) × (b : Act (Option T)) × Valid st.homes me.1 b × IsRuled stands o (stepped st i (get_or st.words i 0) id me.1 w b) × denied es a (step slots i 0 0 none) me (get_or st.words i 0) (w, carried_after me.1 b)
   denies i =
       let x = acts stands o st r id n me.0 es at h me.1 i (get_or st.words i 0) keeps (entry n deed ∷ []) (one_by n deed) (λ k. refl)
@@ -71,6 +73,7 @@ module _ {T : Type 0} (stands : T → LayerState) (o : Opening) (slots id n a : 
     | inr t ↦ (and_parts (is_among n m.state.gate.counted) _ (and_parts (caller_view m n).entered _ (and_parts _ _ t).0).0).0
   ]
 
+  -- with leaving
   pub leaves_denied : (out : (s : Setting) → IsSettingOf me.0.opening me.0.roll s → MayGoOut (ready_after s me.0 es) n) → get_or st.words 1 0 < 18446744073709551616
       → (w : View) × (b : Act (Option T)) × Valid st.homes me.1 b × IsRuled stands o (stepped st 1 ((get_or st.words 1 0 + 18446744073709551615) % 18446744073709551616) id me.1 w b) × denied_left es a (step slots 1 1 0 none) me (get_or st.words 1 0) (w, carried_after me.1 b)
   leaves_denied out small =

@@ -1,3 +1,3 @@
 pub mod Looks
-pub mod Denied
+pub mod NoLiveBlock
 pub mod Denials

@@ -32,11 +32,11 @@ use Rattle.step_parts.specs.Seen.{IsSeen}
 use Rattle.claim_rule.specs.Places.{size_at, word_at_page, hint_at, tag_at, active_at}
 use Rattle.look_steps.specs.Looks.{IsBitsWord, looked_bits, looked_size, IsHintWord, looked_hint, IsTagWord, looked_tag, asked_active}
 use Rattle.look_steps.specs.Laws.{LookBitsLaw, LookSizeLaw, LookHintLaw, LookTagLaw, AskActiveLaw}
-use Rattle.step_parts.proofs.Front.{IsFront, front_here}
-use Rattle.step_parts.proofs.Blocks.{in_lfh, into_lfh, span_found}
+use Rattle.step_parts.proofs.FrontEnd.{IsFront, front_here}
+use Rattle.step_parts.proofs.BlockWords.{in_lfh, into_lfh, span_found}
 use Rattle.step_parts.proofs.Filters.{in_filter}
 use Rattle.claim_rule.proofs.Ready.{reads}
-use Rattle.step_parts.proofs.Tagged.{tagged}
+use Rattle.step_parts.proofs.Tags.{tagged}
 
 ---- One configuration
 
@@ -112,6 +112,7 @@ module _ {T : Type 0} (stands : T → LayerState) (o : Opening) (slots id n : �
   by_number : (P : ℕ → Type 0) → P n → P (number_of me.0.role)
   by_number P p = subst P (sym (ap number_of h.role)) p
 
+  -- an active word
   pub asks_active : (b : ℕ) → b < 128 → Looking (asked_active es b (step slots (active_at b) 0 0 none) me) (active_at b)
   asks_active b lt =
       let a = reads stands o slots id n me es h st r at (active_at b) in (
@@ -129,6 +130,7 @@ module _ {T : Type 0} (stands : T → LayerState) (o : Opening) (slots id n : �
         },
       )
 
+  -- a word of a bitmap
   pub looks_bits : (head word : ℕ) → word < 4 → head < 256 * o.limits.segments → Looking (looked_bits es head word (step slots (word_at_page o.limits head word) 0 0 none) me) (word_at_page o.limits head word)
   looks_bits head word few low =
       let a = reads stands o slots id n me es h st r at (word_at_page o.limits head word) in (
@@ -158,6 +160,7 @@ module _ {T : Type 0} (stands : T → LayerState) (o : Opening) (slots id n : �
           ((before stands o st r id n me.0 es at h s g).words.lfh.bitmaps (4 * head + word) (omega (arith, few, low))
           ∙ ap (λ (z : ℕ × ℕ). bitmap_word (now_at s).state.lfh (lfh_spans (now_at s).state.back.area) z.0 z.1) (λ j. (at_page j, at_word j)))
 
+  -- a size word
   pub looks_size : (addr : ℕ) → addr / 16 < 65536 * o.limits.segments → Looking (looked_size es addr (step slots (size_at o.limits addr) 0 0 none) me) (size_at o.limits addr)
   looks_size addr low =
       let a = reads stands o slots id n me es h st r at (size_at o.limits addr) in (
@@ -180,6 +183,7 @@ module _ {T : Type 0} (stands : T → LayerState) (o : Opening) (slots id n : �
         },
       )
 
+  -- a hint
   pub looks_hint : (b t : ℕ) → 1 ≤ b → b ≤ 128 → t < 16 → Looking (looked_hint es b t (step slots (hint_at b t) 0 0 none) me) (hint_at b t)
   looks_hint b t lb hb ft =
       let a = reads stands o slots id n me es h st r at (hint_at b t) in (
@@ -216,6 +220,7 @@ module _ {T : Type 0} (stands : T → LayerState) (o : Opening) (slots id n : �
                 k.1);
           }
 
+  -- a tag
   pub looks_tag : (page : ℕ) → page < 256 * o.limits.segments → Looking (looked_tag es page (step slots (tag_at page) 0 0 none) me) (tag_at page)
   looks_tag page low =
       let a = reads stands o slots id n me es h st r at (tag_at page) in (

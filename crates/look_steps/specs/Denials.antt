@@ -67,6 +67,7 @@ module _ {T : Type 0} (es : List Entry) (a : ℕ) (st : Step (Option T)) (m : Me
 
 -- .. with the step that gives a lock back
 module _ {T : Type 0} (what : What) (es : List Entry) (a : ℕ) (st : Step (Option T)) (m : Me (Option T) View) (r : ℕ) (m' : Me (Option T) View) where
+  -- no live block has the address, and the lock is free
   pub record denied_gave : Type 0 where
     pub goes : Goes (number_of m.0.role) m.0 m'.0 es (entry (number_of m.0.role) (acts.NotLive a) ∷ entry (number_of m.0.role) (acts.GiveLock what) ∷ [])
     pub slot : (state : T) (more : List (ℕ × Option T)) → m.1 ≡ (slot_of what, Some state) ∷ more → m'.1 ≡ more

@@ -18,6 +18,7 @@ use Rattle.claim_rule.specs.Home.{HasSlot, slot_of, Tells}
 use Rattle.lock_steps.specs.Locks.{IsPaid, MayGiveBack}
 
 module _ {T : Type 0} (stands : T → LayerState) where
+  -- an active word is read
   abbrev pub AskActiveLaw : Type 0
   AskActiveLaw =
       (o : Opening) (slots id n b : ℕ) (me : Me (Option T) View) (es : List Entry) → IsReady n me.0 es → b < 128
@@ -51,6 +52,7 @@ module _ {T : Type 0} (stands : T → LayerState) where
       → ((s : Setting) → IsSettingOf me.0.opening me.0.roll s → MayDeny o.limits (ready_after s me.0 es) n a)
       → Allows (IsRuled stands o) slots id me i (λ x. x) (denied es a (step slots i 0 0 none) me)
 
+  -- .. with giving a lock back
   abbrev pub DenyGiveLaw : Type 0
   DenyGiveLaw =
       (o : Opening) (slots id n a : ℕ) (what : What) (me : Me (Option T) View) (es : List Entry) (state : T) (more : List (ℕ × Option T)) → HasSlot what → IsReady n me.0 es
@@ -59,6 +61,7 @@ module _ {T : Type 0} (stands : T → LayerState) where
       → ((s : Setting) → IsSettingOf me.0.opening me.0.roll s → MayDeny o.limits (ready_after s me.0 es) n a)
       → Allows (IsRuled stands o) slots id me (lock_at what) (λ _. 0) (λ _. denied_gave what es a (step slots (lock_at what) 0 0 none) me 0)
 
+  -- .. with leaving
   abbrev pub DenyLeaveLaw : Type 0
   DenyLeaveLaw =
       (o : Opening) (slots id n a : ℕ) (me : Me (Option T) View) (es : List Entry) → IsReady n me.0 es

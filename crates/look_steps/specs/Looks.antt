@@ -31,6 +31,7 @@ pub record IsBitsWord (ps : List Place) (a : Area) (head word r : ℕ) : Type 0 
   pub bits : (x : Span) → IsOneOf x (lfh_spans a) → x.first ≡ head → r ≡ bits_of ps x word
 
 module _ {T : Type 0} (es : List Entry) (head word : ℕ) (st : Step (Option T)) (m : Me (Option T) View) (r : ℕ) (m' : Me (Option T) View) where
+  -- what a word of a bitmap tells
   pub record looked_bits : Type 0 where
     pub goes : Goes (number_of m.0.role) m.0 m'.0 es []
     pub slot : m'.1 ≡ m.1
@@ -41,6 +42,7 @@ module _ {T : Type 0} (es : List Entry) (head word : ℕ) (st : Step (Option T))
 
 -- the size word of an address
 module _ {T : Type 0} (es : List Entry) (addr : ℕ) (st : Step (Option T)) (m : Me (Option T) View) (r : ℕ) (m' : Me (Option T) View) where
+  -- what a size word tells
   pub record looked_size : Type 0 where
     pub goes : Goes (number_of m.0.role) m.0 m'.0 es []
     pub slot : m'.1 ≡ m.1
@@ -57,6 +59,7 @@ pub record IsHintWord (m : Configuration) (n b t : ℕ) (owes : List Owed) (r : 
   pub seen : (r ≡ 0 → ⊥) → IsSeen m r b t
 
 module _ {T : Type 0} (es : List Entry) (b t : ℕ) (st : Step (Option T)) (m : Me (Option T) View) (r : ℕ) (m' : Me (Option T) View) where
+  -- what a hint tells
   pub record looked_hint : Type 0 where
     pub goes : Goes (number_of m.0.role) m.0 m'.0 es []
     pub slot : m'.1 ≡ m.1
@@ -72,6 +75,7 @@ pub record IsTagWord (m : Configuration) (n page : ℕ) (owes : List Owed) (r : 
   pub tagged : (r ≡ 0 → ⊥) → IsTagged m page r
 
 module _ {T : Type 0} (es : List Entry) (page : ℕ) (st : Step (Option T)) (m : Me (Option T) View) (r : ℕ) (m' : Me (Option T) View) where
+  -- what a tag tells
   pub record looked_tag : Type 0 where
     pub goes : Goes (number_of m.0.role) m.0 m'.0 es []
     pub slot : m'.1 ≡ m.1

@@ -41,8 +41,8 @@ use Rattle.claim_rule.proofs.Slots.{SameHomes, homes_kept, SameGuarded, homes_bu
 use Rattle.claim_rule.proofs.Words.{all_same}
 use Rattle.claim_rule.proofs.Quiet.{SameShown, same_shown}
 use Rattle.claim_rule.proofs.Advance.{before, by, leaves, setting_in, role_of, some_setting, holder_behind, setting_back, seen_behind}
-use Rattle.step_parts.specs.Hands.{HasBlock}
-use Rattle.step_parts.proofs.Held.{placed_held}
+use Rattle.step_parts.specs.InHand.{HasBlock}
+use Rattle.step_parts.proofs.BlocksInHand.{placed_held}
 use Rattle.claim_rule.proofs.Gate.{one_by}
 use Rattle.claim_rule.specs.Places.{bitmap_at, bit_of_block}
 use Rattle.step_parts.specs.Seen.{IsSeen}
@@ -50,14 +50,15 @@ use Rattle.step_parts.specs.Claims.{CanClaim, IsUnder}
 use Rattle.span_steps.specs.Installs.{owed_by_span, owed_by_install, making, IsReserving, MayInstall, installed}
 use Rattle.span_steps.specs.Laws.{InstallLaw}
 use Rattle.claim_rule.proofs.Behind.{owed_soundly}
-use Rattle.step_parts.proofs.Front.{AreAlike, IsFront, IsFrontSpan, front_of, front_here, keeps_here, valid_setting, through_same, some_pages}
-use Rattle.step_parts.proofs.Blocks.{into_lfh}
+use Rattle.step_parts.proofs.FrontEnd.{AreAlike, IsFront, IsFrontSpan, front_of, front_here, keeps_here, valid_setting, through_same, some_pages}
+use Rattle.step_parts.proofs.BlockWords.{into_lfh}
 use Rattle.step_parts.proofs.Placed.{claim_same, placed, IsPlaced}
-use Rattle.span_steps.proofs.Made.{made_shown, no_block, in_inserted}
+use Rattle.span_steps.proofs.NewSubsegment.{made_shown, no_block, in_inserted}
 use Rattle.heap_model.specs.declared.What.{What}
 
 ---- A segment is reserved first, or not
 
+-- behind the Reserve all but the number of segments is the same
 pub record IsSame (m' m : Configuration) : Type 0 where
   pub shown : SameShown m' m
   pub gate : m'.state.gate ≡ m.state.gate
@@ -155,12 +156,14 @@ module _ (l : Limits) (count : ℕ) (s us : Setting) (m : Configuration) (n : �
   under1 : IsUnder m1 n b t true hint (owed_by_span b t hint first pages owes)
   under1 = record { holds_it = ap (λ (f : GateAndLocks). holds f n whats.Back) same.gate ∙ mine; hint_is = λ e. let z = eq-eqb (118 + 16 * b + t) (118 + 16 * b + t) refl in rw z refl }
 
+  -- the block is placed, and the words show it
   pub put : IsPlaced l count s m1 n i true (owed_by_span b t hint first pages owes) words hint first b t
   put = placed l count s m1 n i true (owed_by_span b t hint first pages owes) words front1 shown1 first b t can1 hint few under1 clear1
 
   abbrev placing : Entry
   placing = entry n (acts.Place (block_address b first i) (block_size b / 16) layers.Lfh)
 
+  -- the Place may come
   pub place_follows : may_all_follow s m1 (placing ∷ []) ≡ true
   place_follows =
       let z = block_end b first i can1.below in
@@ -173,9 +176,11 @@ module _ (l : Limits) (count : ℕ) (s us : Setting) (m : Configuration) (n : �
       (and_from (meets_demand m1.state.back.area placing m1.now.demand) (false || is_some (m1.now.calls n).call)
       (and_from (n == n) _ (eq-eqb n n refl) (and_from (true && (nat_le (4096 * first) (block_address b first i) && nat_le (block_address b first i + 16 * (block_size b / 16)) (4096 * (first + pages)))) _ lies refl)) can1.begun) put.ok) refl
 
+  -- the block is in hand
   pub block_held : HasBlock (after s m1 placing) n b (block_address b first i)
   block_held = placed_held s m1 n b (block_address b first i) can1.begun
 
+  -- what the other locks guard stays
   pub homes_same : SameHomes (after s m1 placing).state m.state
   homes_same = homes_but (after s m1 placing).state m.state whats.Back (ap (λ (f : GateAndLocks). f.locks) same.gate) (λ e. let z : None ≡ Some n = sym e ∙ held in let w : ⊥ = cc (z) in w) kept
     where
@@ -289,6 +294,7 @@ module _ {T : Type 0} (stands : T → LayerState) (o : Opening) (slots id n : �
       let hand = block_held o.limits r.lead.counted s us (now_at s) n reserve rs first pages b t i hint few r.owes st.words d.words (held s q) (mine s q) (hint_here s q) f (keep_made s q) refl (can_at s q) in
       subst (λ (m : Configuration). HasBlock m n b (block_address b first i)) (sym is) hand
 
+  -- the subsegment is made
   pub installs : (w : View) × (a : Act (Option T)) × Valid st.homes me.1 a × IsRuled stands o (stepped st word (bit_or (get_or st.words word 0) (bit_of_block i)) id me.1 w a)
       × installed es reserve first pages b t i hint (step slots word (bit_of_block i) 0 none) me (get_or st.words word 0) (w, carried_after me.1 a)
   installs =

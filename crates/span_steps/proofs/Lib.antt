@@ -1,6 +1,6 @@
 pub mod Stores
-pub mod Made
+pub mod NewSubsegment
 pub mod Installs
-pub mod Freed
+pub mod RetiredSubsegment
 pub mod Retires
-pub mod Hinted
+pub mod HintBehind

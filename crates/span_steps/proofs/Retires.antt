@@ -36,9 +36,9 @@ use Rattle.claim_rule.specs.Places.{hint_at}
 use Rattle.span_steps.specs.Retires.{owed_by_retire, MayRetire, retired}
 use Rattle.span_steps.specs.Laws.{RetireLaw}
 use Rattle.claim_rule.proofs.Behind.{owed_soundly}
-use Rattle.step_parts.proofs.Front.{front_here}
+use Rattle.step_parts.proofs.FrontEnd.{front_here}
 use Rattle.claim_rule.proofs.Ready.{stable_here}
-use Rattle.span_steps.proofs.Freed.{freed_shown, found}
+use Rattle.span_steps.proofs.RetiredSubsegment.{freed_shown, found}
 use Rattle.heap_model.specs.declared.What.{What}
 use Rattle.claim_rule.specs.Home.{HasSlot}
 
@@ -127,6 +127,7 @@ module _ {T : Type 0} (stands : T → LayerState) (o : Opening) (slots id n firs
   back_else s q whats.Gate has ne = absurd has
   back_else s q whats.Lfh has ne = absurd has
 
+  -- the subsegment goes
   pub retires : (w : View) × (a : Act (Option T)) × Valid st.homes me.1 a × IsRuled stands o (stepped st (hint_at b t) v id me.1 w a)
       × retired es first pages b t (step slots (hint_at b t) v 0 none) me v (w, carried_after me.1 a)
   retires =

@@ -124,6 +124,7 @@ module _ {T : Type 0} (stands : T → LayerState) (o : Opening) (slots id n : �
   vs_else s b whats.Gate has ne = absurd has
   vs_else s b whats.Lfh has ne = absurd has
 
+  -- a bucket becomes active
   pub activates : (b : ℕ) → b < 128 → ((s : Setting) → IsSettingOf me.0.opening me.0.roll s → MayActivate s (ready_after s me.0 es) n b)
       → Storing (λ z m'. activated es b (step slots (active_at b) 1 0 none) me 1 m') (active_at b) 1 1
   activates b lt ok =
@@ -162,6 +163,7 @@ module _ {T : Type 0} (stands : T → LayerState) (o : Opening) (slots id n : �
         let q0 = some_setting o r.lead.roll in
         back_holder_is s0 r.log ∙ (sym (ap (λ (z : GateAndLocks). z.locks.back) (before stands o st r id n me.0 es at h s0 q0).carried.gate) ∙ held_here s0 q0)
 
+    -- a tag or a hint is stored, and the list of what is owed changes
     pub puts : Storing (λ z m'. put_word es owed (step slots i v 0 none) me v m') i v v
     puts =
         let a = leaves stands o st r id n me.0 es at h me.1 i v keeps [] (owed r.owes) (owed me.0.owes) refl
@@ -177,6 +179,7 @@ module _ {T : Type 0} (stands : T → LayerState) (o : Opening) (slots id n : �
         )) in
         (a.0, keeps, tt, a.1, record { goes = goes_of me (a.0, me.1) n es [] h.role a.2; slot = refl; owes = a.3 })
 
+  -- the tag of the state
   pub puts_tag : (page v : ℕ) → page < 256 * o.limits.segments
       → ((s : Setting) → IsSettingOf me.0.opening me.0.roll s → (holds (ready_after s me.0 es).state.gate n whats.Back ≡ true) × (tag_word (lfh_spans (ready_after s me.0 es).state.back.area) page ≡ v))
       → Storing (λ z m'. put_word es (paid_off (tag_at page)) (step slots (tag_at page) v 0 none) me v m') (tag_at page) v v
@@ -189,6 +192,7 @@ module _ {T : Type 0} (stands : T → LayerState) (o : Opening) (slots id n : �
       (is ∙ sym (subst (λ (z : ℕ). owed_or (paid_off (tag_at page) r.owes) z (tag_word (lfh_spans (now_at s).state.back.area) p) ≡ tag_word (lfh_spans (now_at s).state.back.area) p) (sym e) (paid_here (tag_at page) (tag_word (lfh_spans (now_at s).state.back.area) p) r.owes)), inl is))
       (λ s q b t lb hb ft e. absurd (omega arith))
 
+  -- 0 in place of a tag
   pub clears_tag : (page : ℕ) → page < 256 * o.limits.segments → ((s : Setting) → IsSettingOf me.0.opening me.0.roll s → holds (ready_after s me.0 es).state.gate n whats.Back ≡ true)
       → Storing (λ z m'. put_word es (owed_zero (tag_at page)) (step slots (tag_at page) 0 0 none) me 0 m') (tag_at page) 0 0
   clears_tag page lt ok =
@@ -196,6 +200,7 @@ module _ {T : Type 0} (stands : T → LayerState) (o : Opening) (slots id n : �
       (λ s q p lp e. (sym (subst (λ (z : ℕ). owed_or (owed_zero (tag_at page) r.owes) z (tag_word (lfh_spans (now_at s).state.back.area) p) ≡ 0) (sym e) (zero_here (tag_at page) (tag_word (lfh_spans (now_at s).state.back.area) p) r.owes)), inr refl))
       (λ s q b t lb hb ft e. absurd (omega arith))
 
+  -- the hint of the state
   pub puts_hint : (b t v : ℕ) → 1 ≤ b → b ≤ 128 → t < 16
       → ((s : Setting) → IsSettingOf me.0.opening me.0.roll s → (holds (ready_after s me.0 es).state.gate n whats.Back ≡ true) × (hint_word (ready_after s me.0 es).state.back.area (ready_after s me.0 es).now.span_history b t ≡ v))
       → Storing (λ z m'. put_word es (paid_off (hint_at b t)) (step slots (hint_at b t) v 0 none) me v m') (hint_at b t) v v

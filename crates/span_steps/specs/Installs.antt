@@ -16,7 +16,7 @@ use Rattle.claim_rule.specs.declared.views.View.{View}
 use Rattle.claim_rule.specs.Shown.{owed_or, hint_word}
 use Rattle.claim_rule.specs.Entries.{IsSettingOf, entry}
 use Rattle.claim_rule.specs.Plays.{Goes, number_of}
-use Rattle.step_parts.specs.Hands.{HasBlock}
+use Rattle.step_parts.specs.InHand.{HasBlock}
 use Rattle.step_parts.specs.Claims.{MayClaim}
 
 -- the tags of so many pages from one on are owed, and are 0
@@ -36,9 +36,11 @@ owed_by_install b t hint first pages owes = record { word = 118 + 16 * b + t; va
 abbrev pub making : ℕ → List Entry → ℕ → ℕ → ℕ → ℕ → List Entry
 making n reserve first pages b t = reserve ++ entry n (acts.Span first pages kinds.Lfh b t) ∷ []
 
+-- nothing is reserved before, or one segment
 abbrev pub IsReserving : ℕ → List Entry → Type 0
 IsReserving n reserve = (reserve ≡ []) ⊎ ((segment : ℕ) × (reserve ≡ entry n (acts.Reserve segment) ∷ []))
 
+-- It holds Back, the entries may come and it alone decides so, and behind them it may claim block i of the new subsegment.
 pub record MayInstall (s : Setting) (m : Configuration) (n : ℕ) (reserve : List Entry) (first pages b t i hint : ℕ) (owes : List Owed) : Type 0 where
   pub holds_it : holds m.state.gate n whats.Back ≡ true
   pub hint_is : owed_or owes (118 + 16 * b + t) (hint_word m.state.back.area m.now.span_history b t) ≡ hint
@@ -47,6 +49,7 @@ pub record MayInstall (s : Setting) (m : Configuration) (n : ℕ) (reserve : Lis
   pub claim : MayClaim s (configuration_after s m (making n reserve first pages b t)) n first b t i
 
 module _ {T : Type 0} (es reserve : List Entry) (first pages b t i hint : ℕ) (st : Step (Option T)) (m : Me (Option T) View) (r : ℕ) (m' : Me (Option T) View) where
+  -- the subsegment is there, and its block is in hand; its tags and the hint are owed
   pub record installed : Type 0 where
     pub goes : Goes (number_of m.0.role) m.0 m'.0 es (making (number_of m.0.role) reserve first pages b t ++ entry (number_of m.0.role) (acts.Place (block_address b first i) (block_size b / 16) layers.Lfh) ∷ [])
     pub slot : m'.1 ≡ m.1

@@ -14,6 +14,7 @@ use Rattle.claim_rule.specs.Plays.{Adds, Goes, number_of}
 
 ---- Active words
 
+-- it holds Vs, and the bucket is due
 pub record MayActivate (s : Setting) (m : Configuration) (n b : ℕ) : Type 0 where
   pub begun : is_some (m.now.calls n).call ≡ true
   pub holds_it : holds m.state.gate n whats.Vs ≡ true
@@ -21,6 +22,7 @@ pub record MayActivate (s : Setting) (m : Configuration) (n b : ℕ) : Type 0 wh
   pub ok : may s m n (acts.Active (b + 1)) ≡ true
 
 module _ {T : Type 0} (es : List Entry) (b : ℕ) (st : Step (Option T)) (m : Me (Option T) View) (r : ℕ) (m' : Me (Option T) View) where
+  -- the bucket is active
   pub record activated : Type 0 where
     pub adds : Adds es (acts.Active (b + 1)) m m'
     pub slot : m'.1 ≡ m.1
@@ -38,6 +40,7 @@ owed_zero i owes = record { word = i; value = 0 } ∷ owes
 
 -- no entry; the list of words that are owed changes
 module _ {T : Type 0} (es : List Entry) (owed : List Owed → List Owed) (st : Step (Option T)) (m : Me (Option T) View) (r : ℕ) (m' : Me (Option T) View) where
+  -- no entry is added, and what is owed changes
   pub record put_word : Type 0 where
     pub goes : Goes (number_of m.0.role) m.0 m'.0 es []
     pub slot : m'.1 ≡ m.1

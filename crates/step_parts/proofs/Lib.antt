@@ -1,10 +1,10 @@
 pub mod Filters
-pub mod Front
+pub mod FrontEnd
 pub mod Starts
-pub mod Bits
-pub mod Blocks
-pub mod Lasting
-pub mod Hands
-pub mod Held
+pub mod BitmapWords
+pub mod BlockWords
+pub mod Stays
+pub mod ChangedPlaces
+pub mod BlocksInHand
 pub mod Placed
-pub mod Tagged
+pub mod Tags

@@ -31,8 +31,8 @@ use Rattle.claim_rule.specs.Entries.{entry}
 use Rattle.step_parts.specs.Seen.{IsSeen}
 use Rattle.step_parts.specs.Claims.{CanClaim, MayClaim, owed_by_place, IsUnder}
 use Rattle.claim_rule.proofs.Behind.{stays, IsBehind, IsOwedSoundly, owed_soundly, shown_behind, still_owed, locks_stay}
-use Rattle.step_parts.proofs.Front.{IsFront}
-use Rattle.step_parts.proofs.Blocks.{in_lfh, seat_at, words_kept, set_word, bit_here, word_at, at_below}
+use Rattle.step_parts.proofs.FrontEnd.{IsFront}
+use Rattle.step_parts.proofs.BlockWords.{in_lfh, seat_at, words_kept, set_word, bit_here, word_at, at_below}
 use Rattle.step_parts.proofs.Filters.{into_filter}
 
 ---- Hints
@@ -55,6 +55,7 @@ head_of_hint (Some h) xs x i f = f h refl
 head_of_hint None [] x i f = absurd i
 head_of_hint None (y ∷ ys) x i f = or_left (eqb y.first y.first) _ (eq-eqb y.first y.first refl)
 
+-- where there is a subsegment the hint names one
 pub hint_head : (m : Configuration) (b t : ℕ) (x : Span) → HintsAreHeads m → IsOneOf x (spans_of m.state.back.area b t) → is_head m.state.back.area b t (hint_word m.state.back.area m.now.span_history b t) ≡ true
 hint_head m b t x h i = head_of_hint (m.now.span_history.hints b t) (spans_of m.state.back.area b t) x i (h b t)
 
@@ -160,10 +161,12 @@ module _ (l : Limits) (s : Setting) (m : Configuration) (n : ℕ) (f : IsFront l
 
   ---- Without Back
 
+  -- the parts of the words
   pub behind_free : (owes : List Owed) (word : ℕ) → holds m.state.gate n whats.Back ≡ false → word ≡ bitmap_word m.state.lfh (lfh_spans m.state.back.area) ((4 * x.first + i / 64) / 4) ((4 * x.first + i / 64) % 4)
       → IsBehind l next m owes owes (bitmap_at l x.first i) (bit_or word (bit_of_block i))
   behind_free owes word b e = behind_by false owes word e (λ c t lc hc ft. ap (λ (r : SpanHistory). owed_or owes (118 + 16 * c + t) (hint_word m.state.back.area r c t)) (history_is false b)) (λ page tag. refl)
 
+  -- what is owed
   pub sound_free : (owes : List Owed) → holds m.state.gate n whats.Back ≡ false → IsOwedSoundly l m owes → IsOwedSoundly l next owes
   sound_free owes b h = still_owed l next m owes refl (history_is false b) refl h
 
@@ -194,6 +197,7 @@ module _ (l : Limits) (s : Setting) (m : Configuration) (n : ℕ) (f : IsFront l
     tag_owed : (page tag : ℕ) → owed_or (owed_word ∷ owes) (2182 + page) tag ≡ owed_or owes (2182 + page) tag
     tag_owed page tag = let few = (f.spans x there is).bucket.1 in owed_else owed_word owes (2182 + page) tag (λ e. omega arith)
 
+    -- the parts of the words
     pub behind_under : (word : ℕ) → word ≡ bitmap_word m.state.lfh (lfh_spans m.state.back.area) ((4 * x.first + i / 64) / 4) ((4 * x.first + i / 64) % 4)
         → IsBehind l next m (owes_now true owes) owes (bitmap_at l x.first i) (bit_or word (bit_of_block i))
     behind_under word e = behind_by true owes word e (λ b t lb hb ft. hint_owed b t ft) tag_owed
@@ -226,6 +230,7 @@ module _ (l : Limits) (s : Setting) (m : Configuration) (n : ℕ) (f : IsFront l
       ⊎_elim (λ (z : (word ≡ 0) × (are_made_by m.state.back.area m.now.span_history w.0 b t ≡ true)). inl (z.0, ap (λ (r : SpanHistory). are_made_by m.state.back.area r w.0 b t) (history_is true mine) ∙ z.1)) (λ (z : is_head m.state.back.area b t word ≡ true). inr z) w.2,
     )
 
+    -- what is owed
     pub sound_under : IsOwedSoundly l m owes → IsOwedSoundly l next (owes_now true owes)
     sound_under h = record {
       tags = λ page lp.
@@ -280,11 +285,13 @@ under_same n b t hint back owes m k r h = record {
 }
 
 module _ (l : Limits) (made : ℕ) (s : Setting) (m : Configuration) (n i : ℕ) (back : Bool) (owes : List Owed) (words : List ℕ) where
+  -- the block may be placed, and the words show it
   pub record IsPlaced (hint head b t : ℕ) : Type 0 where
     pub ok : may s m n (acts.Place (block_address b head i) (block_size b / 16) layers.Lfh) ≡ true
     pub shown : AreAllShown l made (after s m (entry n (acts.Place (block_address b head i) (block_size b / 16) layers.Lfh))) (owed_by_place back b t hint owes)
         (set words (bitmap_at l head i) (bit_or (get_or words (bitmap_at l head i) 0) (bit_of_block i)))
 
+  -- another has the block, and the word stays as it was
   pub record IsLost (head b : ℕ) : Type 0 where
     pub ok : may s m n (acts.Lost head i) ≡ true
     pub same : bit_or (get_or words (bitmap_at l head i) 0) (bit_of_block i) ≡ get_or words (bitmap_at l head i) 0
@@ -384,13 +391,16 @@ module _ (l : Limits) (made : ℕ) (s : Setting) (m : Configuration) (n i : ℕ)
     turn : (P : ℕ × (ℕ × ℕ) → Type 0) → P (x.first, (x.bucket, x.slot)) → P (head, (b, t))
     turn P p = subst P (λ j. (c.seen.begins j, (c.seen.bucket j, c.seen.slot j))) p
 
+    -- where the bit was 0
     pub placed : (hint : ℕ) → t < 16 → IsUnder m n b t back hint owes → starts_at m.state.lfh (block_address b head i) ≡ false → IsPlaced hint head b t
     placed hint =
         turn (λ z. CanClaim s m n z.0 z.1.0 z.1.1 i → z.1.1 < 16 → IsUnder m n z.1.0 z.1.1 back hint owes → starts_at m.state.lfh (block_address z.1.0 z.0 i) ≡ false → IsPlaced hint z.0 z.1.0 z.1.1)
         (λ d ft u clear. placed_from f shown x inside.0 inside.1 hint d ft u clear) c
 
+    -- where it was 1
     pub lost : starts_at m.state.lfh (block_address b head i) ≡ true → IsLost head b
     lost = turn (λ z. CanClaim s m n z.0 z.1.0 z.1.1 i → starts_at m.state.lfh (block_address z.1.0 z.0 i) ≡ true → IsLost z.0 z.1.0) (λ d taken. lost_at f shown x inside.0 inside.1 d taken) c
 
+    -- the bit tells whether a block begins there
     pub bit_is : has_bit (get_or words (bitmap_at l head i) 0) (i % 64) ≡ starts_at m.state.lfh (block_address b head i)
     bit_is = turn (λ z. i < block_count z.1.0 → has_bit (get_or words (bitmap_at l z.0 i) 0) (i % 64) ≡ starts_at m.state.lfh (block_address z.1.0 z.0 i)) (λ below. bit_found f shown x inside.0 inside.1 below) c.below

@@ -7,9 +7,11 @@ use Rattle.heap_model.specs.declared.Layer.{Layer}
 use Rattle.heap_model.specs.State.{Place, address, has_address, remove_found, change_found}
 use Rattle.step_parts.specs.Starts.{HaveOwnStarts}
 
+-- the place begins there
 abbrev pub begins : ℕ → Place → Bool
 begins a p = eqb p.start a
 
+-- the place is of the front end
 abbrev pub OfLfh : Place → Type 0
 OfLfh p = p.layer ≡ layers.Lfh
 

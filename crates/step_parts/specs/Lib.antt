@@ -1,5 +1,5 @@
 pub mod Starts
 pub mod Seen
-pub mod Hands
+pub mod InHand
 pub mod Claims
 pub mod Laws

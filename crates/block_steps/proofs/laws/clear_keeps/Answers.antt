@@ -1,4 +1,4 @@
-use Rattle.block_steps.proofs.Blocks.{clear_law}
+use Rattle.block_steps.proofs.BlockLaws.{clear_law}
 use Rattle.block_steps.proofs.laws.clear_keeps.Goals as goal
 
 pub returns : goal.returns

@@ -1,4 +1,4 @@
-use Rattle.block_steps.proofs.Blocks.{publish_law}
+use Rattle.block_steps.proofs.BlockLaws.{publish_law}
 use Rattle.block_steps.proofs.laws.publish_keeps.Goals as goal
 
 pub returns : goal.returns

@@ -1,4 +1,4 @@
-use Rattle.block_steps.proofs.Blocks.{size_law}
+use Rattle.block_steps.proofs.BlockLaws.{size_law}
 use Rattle.block_steps.proofs.laws.size_keeps.Goals as goal
 
 pub returns : goal.returns

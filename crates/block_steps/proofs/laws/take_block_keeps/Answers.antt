@@ -1,4 +1,4 @@
-use Rattle.block_steps.proofs.Blocks.{take_block_law}
+use Rattle.block_steps.proofs.BlockLaws.{take_block_law}
 use Rattle.block_steps.proofs.laws.take_block_keeps.Goals as goal
 
 pub returns : goal.returns

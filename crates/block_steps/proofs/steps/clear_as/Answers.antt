@@ -5,7 +5,7 @@ use Rattle.claim_rule.specs.Rule.{IsRuled}
 use Rattle.claim_rule.specs.Plays.{number_of}
 use Rattle.heap_model.specs.Buckets.{block_address}
 use Rattle.block_steps.specs.Blocks.{cleared}
-use Rattle.block_steps.proofs.Blocks.{clear_law}
+use Rattle.block_steps.proofs.BlockLaws.{clear_law}
 use Rattle.block_steps.proofs.steps.clear_as.Goals as goal
 
 pub fetch_and-requires : goal.fetch_and-requires

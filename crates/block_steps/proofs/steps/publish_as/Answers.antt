@@ -4,7 +4,7 @@ use Rattle.atomic_table.specs.Table.{step, Allows}
 use Rattle.claim_rule.specs.Rule.{IsRuled}
 use Rattle.claim_rule.specs.Plays.{number_of}
 use Rattle.block_steps.specs.Blocks.{published}
-use Rattle.block_steps.proofs.Blocks.{publish_law}
+use Rattle.block_steps.proofs.BlockLaws.{publish_law}
 use Rattle.block_steps.proofs.steps.publish_as.Goals as goal
 
 pub store-requires : goal.store-requires

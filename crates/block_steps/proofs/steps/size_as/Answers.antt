@@ -4,7 +4,7 @@ use Rattle.atomic_table.specs.Table.{step, Allows}
 use Rattle.claim_rule.specs.Rule.{IsRuled}
 use Rattle.claim_rule.specs.Plays.{number_of}
 use Rattle.block_steps.specs.Blocks.{sized}
-use Rattle.block_steps.proofs.Blocks.{size_law}
+use Rattle.block_steps.proofs.BlockLaws.{size_law}
 use Rattle.block_steps.proofs.steps.size_as.Goals as goal
 
 pub load-requires : goal.load-requires

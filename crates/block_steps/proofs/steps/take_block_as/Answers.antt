@@ -4,7 +4,7 @@ use Rattle.atomic_table.specs.Table.{step, Allows}
 use Rattle.claim_rule.specs.Rule.{IsRuled}
 use Rattle.claim_rule.specs.Plays.{number_of}
 use Rattle.block_steps.specs.Blocks.{taken_block}
-use Rattle.block_steps.proofs.Blocks.{take_block_law}
+use Rattle.block_steps.proofs.BlockLaws.{take_block_law}
 use Rattle.block_steps.proofs.steps.take_block_as.Goals as goal
 
 pub swap-requires : goal.swap-requires

@@ -1,4 +1,4 @@
-use Rattle.step_parts.proofs.Front.{keeps_here}
+use Rattle.step_parts.proofs.FrontEnd.{keeps_here}
 use Rattle.step_parts.proofs.laws.carried_is_sound.Goals as goal
 
 pub returns : goal.returns

@@ -1,4 +1,4 @@
-use Rattle.step_parts.proofs.Lasting.{seen_still}
+use Rattle.step_parts.proofs.Stays.{seen_still}
 use Rattle.step_parts.proofs.laws.seen_stays.Goals as goal
 
 pub returns : goal.returns

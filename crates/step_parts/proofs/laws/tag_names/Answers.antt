@@ -1,4 +1,4 @@
-use Rattle.step_parts.proofs.Tagged.{seen_by_tag}
+use Rattle.step_parts.proofs.Tags.{seen_by_tag}
 use Rattle.step_parts.proofs.laws.tag_names.Goals as goal
 
 pub returns : goal.returns

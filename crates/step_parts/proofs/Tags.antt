@@ -17,8 +17,8 @@ use Rattle.heap_soundness.proofs.Lists.{found_in, found_passes, find_some}
 use Rattle.heap_soundness.proofs.Spans.{same_span}
 use Rattle.claim_rule.specs.Shown.{lfh_spans, tag_of, tag_word}
 use Rattle.step_parts.specs.Seen.{IsSeen, IsTagged, bucket_of_tag, slot_of_tag, first_of_tag}
-use Rattle.step_parts.proofs.Front.{IsFront}
-use Rattle.step_parts.proofs.Blocks.{in_lfh, into_lfh}
+use Rattle.step_parts.proofs.FrontEnd.{IsFront}
+use Rattle.step_parts.proofs.BlockWords.{in_lfh, into_lfh}
 
 -- a tag that is that of the state and not 0 tells a subsegment
 pub tagged : (l : Limits) (m : Configuration) (f : IsFront l m.state.back.area m.state.lfh) → l.slots ≤ 16 → (page word : ℕ) → word ≡ tag_word (lfh_spans m.state.back.area) page → (word ≡ 0 → ⊥) → IsTagged m page word

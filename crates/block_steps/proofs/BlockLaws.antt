@@ -33,17 +33,17 @@ use Rattle.claim_rule.proofs.Words.{all_same, all_kept}
 use Rattle.claim_rule.specs.Plays.{number_of}
 use Rattle.claim_rule.proofs.Advance.{before, acts, adds_of, setting_in, setting_back, seen_behind, some_setting}
 use Rattle.claim_rule.proofs.Gate.{one_by, one_follows}
-use Rattle.step_parts.specs.Hands.{IsInHand, HasBlock, IsBlockNumber}
+use Rattle.step_parts.specs.InHand.{IsInHand, HasBlock, IsBlockNumber}
 use Rattle.block_steps.specs.Blocks.{MayClear, MayPublish, MayAsk, HasNone, cleared, published, taken_block, sized}
 use Rattle.block_steps.specs.Laws.{ClearLaw, PublishLaw, TakeBlockLaw, SizeLaw}
-use Rattle.step_parts.proofs.Front.{front_here, keeps_here, usual}
-use Rattle.step_parts.proofs.Held.{found_lfh, taken_held}
-use Rattle.step_parts.proofs.Blocks.{in_lfh}
+use Rattle.step_parts.proofs.FrontEnd.{front_here, keeps_here, usual}
+use Rattle.step_parts.proofs.BlocksInHand.{found_lfh, taken_held}
+use Rattle.step_parts.proofs.BlockWords.{in_lfh}
 use Rattle.step_parts.proofs.Starts.{begins}
-use Rattle.step_parts.proofs.Hands.{with_lfh, lfh_address}
-use Rattle.step_parts.proofs.Lasting.{still_there, seen_still}
+use Rattle.step_parts.proofs.ChangedPlaces.{with_lfh, lfh_address}
+use Rattle.step_parts.proofs.Stays.{still_there, seen_still}
 use Rattle.claim_rule.proofs.Ready.{stable_here}
-use Rattle.block_steps.proofs.Sizes.{no_unspan, drops, gives_size, takes_size}
+use Rattle.block_steps.proofs.InHandWords.{no_unspan, drops, gives_size, takes_size}
 use Rattle.block_steps.proofs.SizeWords.{not_live, live_there, block_there}
 
 in_left : {A : Type 0} (x : A) (xs ys : List A) → IsOneOf x xs → IsOneOf x (xs ++ ys)
@@ -78,6 +78,7 @@ module _ {T : Type 0} (stands : T → LayerState) (o : Opening) (id n : ℕ) (me
   homes_here : (s : Setting) (q : IsSettingOf o r.lead.roll s) → HasHomes (there s).state
   homes_here s q = (keeps_here stands o st r id n me.0 es at h s q).homes
 
+  -- the bit is cleared
   pub clears : (slots head b t i : ℕ) → ((s : Setting) → IsSettingOf me.0.opening me.0.roll s → MayClear s (ready_after s me.0 es) n head b t i)
       → Doing (λ z m'. cleared es (block_address b head i) (step slots (bitmap_at o.limits head i) (bit_not w64 (bit_of_block i)) 0 none) me z m') (bitmap_at o.limits head i) (bit_and (get_or st.words (bitmap_at o.limits head i) 0) (bit_not w64 (bit_of_block i))) (get_or st.words (bitmap_at o.limits head i) 0)
   clears slots head b t i ok =
@@ -97,6 +98,7 @@ module _ {T : Type 0} (stands : T → LayerState) (o : Opening) (id n : ℕ) (me
       )) in
       (a.0, keeps, tt, a.1, record { adds = adds_of me (a.0, me.1) n es deed h.role a.2; slot = refl; owes = a.3 })
 
+  -- the size is stored
   pub publishes : (slots addr size : ℕ) → ((s : Setting) → IsSettingOf me.0.opening me.0.roll s → MayPublish s (ready_after s me.0 es) n addr size)
       → Doing (λ z m'. published es addr size (step slots (size_at o.limits addr) (size + 1) 0 none) me (size + 1) m') (size_at o.limits addr) (size + 1) (size + 1)
   publishes slots addr size ok =
@@ -191,6 +193,7 @@ module _ {T : Type 0} (stands : T → LayerState) (o : Opening) (id n : ℕ) (me
         let e = found_at_addr s q addr p.0 p.1 p.2 in
         taken_held s (there s) n b addr (found - 1) p.0 p.1 p.2 p.3 f.layers f.apart e.0 e.1 p.5 k.begun
 
+    -- the size word is swapped for 0
     pub takes_block : Doing (taken_block es head b addr (step slots (size_at o.limits addr) 0 0 none) me) (size_at o.limits addr) 0 found
     takes_block = elim (cases_eq found 0) [
       | inl z ↦ let w = none_word 0 (sym z) z in (w.0, keeps, tt, w.1, record { live = λ k. absurd (k z); none = λ _. w.2 })
@@ -229,6 +232,7 @@ module _ {T : Type 0} (stands : T → LayerState) (o : Opening) (id n : ℕ) (me
           )
     ]
 
+    -- the size word is read
     pub sizes_block : Doing (sized es addr (step slots (size_at o.limits addr) 0 0 none) me) (size_at o.limits addr) found found
     sizes_block = elim (cases_eq found 0) [
       | inl z ↦ let w = none_word found refl z in (w.0, keeps, tt, w.1, record { live = λ k. absurd (k z); none = λ _. w.2 })

@@ -13,14 +13,16 @@ use Rattle.heap_model.specs.Legal.{after, with_places, with_status, layer_of}
 use Rattle.heap_soundness.specs.Sound.{IsOneOf}
 use Rattle.search_laws.proofs.Blocks.{whole_granules}
 use Rattle.claim_rule.specs.Entries.{entry}
-use Rattle.step_parts.specs.Hands.{HasBlock}
+use Rattle.step_parts.specs.InHand.{HasBlock}
 use Rattle.step_parts.specs.Starts.{HaveOwnStarts}
 use Rattle.step_parts.proofs.Starts.{begins, OfLfh}
-use Rattle.step_parts.proofs.Hands.{with_lfh, lfh_address, changed_is, found_is}
+use Rattle.step_parts.proofs.ChangedPlaces.{with_lfh, lfh_address, changed_is, found_is}
 
+-- where the found place is of the front end, only its places change
 pub found_lfh : (st : HeapState) (o : Option Place) (p : Place) (f : List Place → List Place) → o ≡ Some p → p.layer ≡ layers.Lfh → with_places st (layer_of o) f ≡ with_lfh st (f st.lfh)
 found_lfh st o p f e l = ap (λ (z : Option Place). with_places st (layer_of z) f) e ∙ ap (λ (k : Layer). with_places st (Some k) f) l
 
+-- a block that was placed is in hand
 pub placed_held : (s : Setting) (m : Configuration) (n b addr : ℕ) → is_some (m.now.calls n).call ≡ true → HasBlock (after s m (entry n (acts.Place addr (block_size b / 16) layers.Lfh))) n b addr
 placed_held s m n b addr k =
     let e = eq-eqb n n refl in
@@ -54,6 +56,7 @@ find_left t (x ∷ xs) ys p e = elim (cases_Bool (t x)) [
   | inr g ↦ rw g (find_left t xs ys p (rw g at e))
 ]
 
+-- a block that was taken is in hand
 pub taken_held : (s : Setting) (m : Configuration) (n b a size : ℕ) (p : Place) → IsOneOf p m.state.lfh → p.start ≡ a → p.status ≡ Live size → AllByRecursion OfLfh m.state.lfh → HaveOwnStarts m.state.lfh
     → place_at m.state n a ≡ Some p → p.layer ≡ layers.Lfh → 16 * p.granules ≡ block_size b → is_some (m.now.calls n).call ≡ true → HasBlock (after s m (entry n (acts.Take a size))) n b a
 taken_held s m n b a size p there at live of apart e l long k =

@@ -17,16 +17,18 @@ use Rattle.heap_soundness.proofs.Lists.{all_at, all_from, found_in, found_passes
 use Rattle.claim_rule.specs.declared.views.Owed.{Owed}
 use Rattle.claim_rule.specs.Shown.{lfh_spans, flag, bitmap_word, size_word, owed_or, tag_word, hint_word}
 use Rattle.claim_rule.proofs.Behind.{Becomes, stays, IsBehind, IsOwedSoundly, still_owed, locks_stay}
-use Rattle.step_parts.proofs.Bits.{same_word_of}
+use Rattle.step_parts.proofs.BitmapWords.{same_word_of}
 use Rattle.step_parts.specs.Starts.{HaveOwnStarts}
 use Rattle.step_parts.proofs.Starts.{begins, OfLfh, same_removed, same_changed, any_changed}
 
 ---- The words where only places of the front end are others
 
+-- the state with these places of the front end
 abbrev pub with_lfh : HeapState → List Place → HeapState
 with_lfh st qs = record st { lfh = qs }
 
 module _ (l : Limits) (m' m : Configuration) (owes : List Owed) (at v : ℕ) (qs : List Place) (e : m'.state ≡ with_lfh m.state qs) (h : m'.now.span_history ≡ m.now.span_history) where
+  -- the parts of the words where only bits and sizes change
   pub places_only : 2182 + 256 * l.segments ≤ at → at < 2182 + 66816 * l.segments
       → ((k : ℕ) → k < 1024 * l.segments → Becomes at v (2182 + 256 * l.segments + k) (bitmap_word qs (lfh_spans m.state.back.area) (k / 4) (k % 4)) (bitmap_word m.state.lfh (lfh_spans m.state.back.area) (k / 4) (k % 4)))
       → ((k : ℕ) → k < 65536 * l.segments → Becomes at v (2182 + 1280 * l.segments + k) (size_word qs k) (size_word m.state.lfh k))
@@ -42,11 +44,13 @@ module _ (l : Limits) (m' m : Configuration) (owes : List Owed) (at v : ℕ) (qs
     stored = λ k lk. stays at v (2182 + 66816 * l.segments + k) _ _ (λ g. omega arith) (ap (λ (x : HeapState). x.words k) e);
   }
 
+  -- what is owed stays
   pub owed_places : IsOwedSoundly l m owes → IsOwedSoundly l m' owes
   owed_places f = still_owed l m' m owes (ap (λ (x : HeapState). x.back.area) e) h (ap (λ (x : HeapState). x.gate.locks.back) e) f
 
 ---- The one place that begins at an address
 
+-- two places that begin at one address are one
 pub one_start : (ps : List Place) (p q : Place) → HaveOwnStarts ps → IsOneOf p ps → IsOneOf q ps → p.start ≡ q.start → p ≡ q
 one_start [] p q h i j e = absurd i
 one_start (x ∷ xs) p q h (inl a) (inl b) e = sym a ∙ b
@@ -54,6 +58,7 @@ one_start (x ∷ xs) p q h (inl a) (inr j) e = absurd (all_at (λ z. x.start ≡
 one_start (x ∷ xs) p q h (inr i) (inl b) e = absurd (all_at (λ z. x.start ≡ z.start → ⊥) p xs h.0 i (ap (λ (z : Place). z.start) b ∙ sym e))
 one_start (x ∷ xs) p q h (inr i) (inr j) e = one_start xs p q h.1 i j e
 
+-- a place of the front end has the address at which it begins
 pub lfh_address : (p : Place) → p.layer ≡ layers.Lfh → address p ≡ p.start
 lfh_address p e = by p.layer e
   where
@@ -72,12 +77,15 @@ module _ (ps : List Place) (of : AllByRecursion OfLfh ps) (apart : HaveOwnStarts
         | inr e ↦ let n : has_address p.start q ≡ false = ap (λ (z : ℕ). eqb z p.start) a ∙ e in (rw n refl) ∙ sym e
       ])
 
+  -- to remove by a test of address and status is to remove what begins there
   pub removed_is : (u : Status → Bool) → u p.status ≡ true → remove_found (λ q. has_address p.start q && u q.status) ps ≡ remove_found (begins p.start) ps
   removed_is u h = same_removed (λ q. has_address p.start q && u q.status) (begins p.start) ps (same_test u h)
 
+  -- .. and so it is to change
   pub changed_is : (u : Status → Bool) (f : Place → Place) → u p.status ≡ true → change_found (λ q. has_address p.start q && u q.status) f ps ≡ change_found (begins p.start) f ps
   changed_is u f h = same_changed (λ q. has_address p.start q && u q.status) (begins p.start) f ps (same_test u h)
 
+  -- .. and to find
   pub found_is : find (begins p.start) ps ≡ Some p
   found_is =
       let r = Rattle.heap_soundness.proofs.Lists.find_some (begins p.start) ps p there (eq-eqb p.start p.start refl) in
@@ -90,6 +98,7 @@ module _ (ps : List Place) (of : AllByRecursion OfLfh ps) (apart : HaveOwnStarts
 
 ---- Where places are changed and begin where they did
 
+-- the bits stay
 pub bits_on : (ps qs : List Place) (xs : List Span) → ((a : ℕ) → starts_at ps a ≡ starts_at qs a) → (page w : ℕ) → bitmap_word qs xs page w ≡ bitmap_word ps xs page w
 bits_on ps qs xs h page w = ap (λ o. unwrap_or o 0) (by_span (find (begins_at page) xs))
   where
@@ -98,5 +107,6 @@ bits_on ps qs xs h page w = ap (λ o. unwrap_or o 0) (by_span (find (begins_at p
     by_span (Some y) = ap Some (same_word_of (λ n. is_taken qs y (64 * w + n)) (λ n. is_taken ps y (64 * w + n)) 0 64
         (λ n lo hi. ap (λ (c : Bool). Rattle.std.proofs.Common.ltb (64 * w + n) (block_count y.bucket) && c) (sym (h (block_address y.bucket y.first (64 * w + n))))))
 
+-- places begin where they did
 pub starts_on : (a : ℕ) (t : Place → Bool) (s : Status) (ps : List Place) → starts_at (change_found t (with_status s) ps) a ≡ starts_at ps a
 starts_on a t s ps = any_changed (with_status s) (λ p. refl) a t ps

@@ -70,6 +70,7 @@ call_same s s' c k _ h = refl
 after_same : (s s' : Setting) (m : Configuration) (e : Entry) → AreAlike s s' e.caller → after s m e ≡ after s' m e
 after_same s s' m e h = ap (λ (x : CallState). record { state = (after s m e).state; now = record { calls = updated m.now.calls e.caller x; disturbed = (after s m e).now.disturbed; span_history = (after s m e).now.span_history; demand = (after s m e).now.demand } }) (call_same s s' e.caller (m.now.calls e.caller) e.act h)
 
+-- a configuration depends on a setting only at callers that have entries
 pub through_same : (s s' : Setting) (k : ℕ) (m : Configuration) (es : List Entry) → ((c : ℕ) → c < k → AreAlike s s' c) → is_named k es ≡ true → configuration_after s m es ≡ configuration_after s' m es
 through_same s s' k m [] h n = refl
 through_same s s' k m (e ∷ es) h n =
@@ -83,11 +84,13 @@ slots_below slots [] c lt h = lt
 slots_below slots (x ∷ xs) zero lt h = ltb-true x.slot slots (and_parts (nat_lt x.slot slots) (have_slots slots xs) h).0
 slots_below slots (x ∷ xs) (suc c) lt h = slots_below slots xs c lt (and_parts (nat_lt x.slot slots) (have_slots slots xs) h).1
 
+-- the setting of the callers is one of a heap
 pub valid_setting : (o : Opening) (roll : List Assignment) → Rattle.heap_model.specs.Limits.AreValid o.limits → have_slots o.limits.slots roll ≡ true → IsValidSetting (setting_of o roll)
 valid_setting o roll l h = let some = l.slots in record { limits = l; slot = λ c lt. slots_below o.limits.slots roll c (omega arith) h }
 
 ---- The front end
 
+-- a subsegment of a bucket and a slot in the segments
 pub record IsFrontSpan (l : Limits) (x : Span) : Type 0 where
   pub kind : x.kind ≡ kinds.Lfh
   pub bucket : (1 ≤ x.bucket) × (x.bucket ≤ 128)
@@ -96,6 +99,7 @@ pub record IsFrontSpan (l : Limits) (x : Span) : Type 0 where
   pub low : 2 ≤ x.first
   pub there : x.first + x.pages ≤ 256 * l.segments
 
+-- spans lie apart in order, and each place is a block of a subsegment
 pub record IsFront (l : Limits) (a : Area) (ps : List Place) : Type 0 where
   pub order : AreInOrder 0 a.spans
   pub spans : (x : Span) → IsOneOf x a.spans → x.kind ≡ kinds.Lfh → IsFrontSpan l x
@@ -114,11 +118,13 @@ own_starts At (p ∷ ps) h d = (all_from (λ q. p.start ≡ q.start → ⊥) ps 
         let y = h q (inr i) in
         ⊎_elim (λ (t : p.start + 16 * p.granules ≤ q.start). let z : ⊥ = omega arith in z) (λ (t : q.start + 16 * q.granules ≤ p.start). let z : ⊥ = omega arith in z) a
 
+-- a span has a page
 pub some_pages : (from : ℕ) (xs : List Span) (x : Span) → AreInOrder from xs → IsOneOf x xs → 0 < x.pages
 some_pages from [] x a i = absurd i
 some_pages from (y ∷ ys) x a (inl e) = subst (λ (z : Span). 0 < z.pages) e a.1
 some_pages from (y ∷ ys) x a (inr i) = some_pages (y.first + y.pages) ys x a.2 i
 
+-- what soundness says of the front end
 pub front_of : (s : Setting) (m : Configuration) → Keeps s m → IsFront s.limits m.state.back.area m.state.lfh
 front_of s m k = record {
   order = k.heap.spans.in_order;
@@ -150,12 +156,15 @@ front_of s m k = record {
 
 module _ {T : Type 0} (stands : T → LayerState) (o : Opening) (st : TableState (Option T) View) (r : IsRuled stands o st) (id n : ℕ) (v : View) (es : List Entry) (at : get_elem? st.views id ≡ some v) (h : IsReady n v es)
     (s : Setting) (q : IsSettingOf o r.lead.roll s) where
+  -- the setting in which only these callers are made
   abbrev pub usual : Setting
   usual = setting_of o r.lead.roll
 
+  -- what is behind the carried entries
   abbrev pub behind : Configuration
   behind = configuration_after s (configuration_of s r.log) es
 
+  -- it is sound
   pub keeps_here : Keeps usual behind
   keeps_here =
       let q0 = some_setting o r.lead.roll in
@@ -167,5 +176,6 @@ module _ {T : Type 0} (stands : T → LayerState) (o : Opening) (st : TableState
       let alike : (c : ℕ) → c < length r.lead.roll → AreAlike usual s c = λ c lt. record { seed = sym q.seed; slot = sym (q.slot c lt); stream = sym (q.stream c lt) } in
       subst (Keeps usual) (through_same usual s (length r.lead.roll) first_configuration (r.log ++ es) alike names ∙ after-append s first_configuration r.log es) (keeps_all usual (r.log ++ es) valid all)
 
+  -- .. and so is the front end
   pub front_here : IsFront o.limits behind.state.back.area behind.state.lfh
   front_here = front_of usual behind keeps_here

@@ -25,10 +25,10 @@ use Rattle.heap_soundness.proofs.Spans.{same_span}
 use Rattle.heap_soundness.proofs.Enums.{kind_is}
 use Rattle.claim_rule.specs.Shown.{lfh_spans}
 use Rattle.look_steps.specs.Denials.{IsNowhere, IsNotLarge, IsInNone, IsOfVs, IsOffBlock, MayDeny}
-use Rattle.step_parts.proofs.Front.{front_of, some_pages}
-use Rattle.step_parts.proofs.Blocks.{in_lfh, seat_at}
+use Rattle.step_parts.proofs.FrontEnd.{front_of, some_pages}
+use Rattle.step_parts.proofs.BlockWords.{in_lfh, seat_at}
 use Rattle.step_parts.proofs.Filters.{into_filter, in_filter}
-use Rattle.step_parts.proofs.Hands.{lfh_address}
+use Rattle.step_parts.proofs.ChangedPlaces.{lfh_address}
 
 vs_address : (q : Place) → q.layer ≡ layers.Vs → address q ≡ q.start + 16
 vs_address q e = by q.layer e
@@ -191,6 +191,7 @@ module _ (us : Setting) (m k : Configuration) (n a : ℕ) (keep : Keeps us m) (r
     not_large = ⊎_elim (λ (z : IsNotLarge l a). none_live m.state.large (λ q j t. no_large q j t (subst (λ (y : Limits). IsNotLarge y a) (sym limits) z)))
         (λ (z : (holds k.state.gate n whats.Large ≡ true) × (has_live k.state.large a ≡ false)). ap (λ (ps : List Place). has_live ps a) (r.large z.0) ∙ z.1) d.large
 
+    -- no layer has a live block there
     pub denied_ok : (s : Setting) → may s m n (acts.NotLive a) ≡ true
     denied_ok s =
         let inside : is_entered m.state.gate n ≡ true = ap (λ (x : CallerView). x.entered) (caller_view_same n m k r) ∙ d.inside in

@@ -1,5 +1,5 @@
 -- The words behind a step on a block in hand: its bit is cleared, or its size word is written.
-use Rattle.std.proofs.Common.{◌≡◌, ℕ, ◌+◌, ◌-◌, ◌*◌, ◌/◌, ◌%◌, ◌<◌, true, false, List, length, get_or, set, bit_and, w64, refl, sym, ap, ◌∙◌, subst, arith, Option, Some, None, inl, inr}
+use Rattle.std.proofs.Common.{◌≡◌, ℕ, ◌+◌, ◌*◌, ◌/◌, ◌%◌, ◌<◌, true, false, List, length, get_or, set, bit_and, w64, refl, sym, ap, ◌∙◌, subst, arith, Option, Some, None, inl, inr}
 use Rattle.std.specs.Prelude.{unwrap_or, option_map}
 use Rattle.std.specs.Int.{bit_not}
 use Rattle.std.specs.List.{find}
@@ -24,23 +24,24 @@ use Rattle.claim_rule.specs.declared.views.Owed.{Owed}
 use Rattle.claim_rule.specs.Places.{word_count, bitmap_at, bit_of_block, size_at}
 use Rattle.claim_rule.specs.Shown.{AreAllShown, lfh_spans, bitmap_word, size_word}
 use Rattle.claim_rule.specs.Entries.{entry}
-use Rattle.claim_rule.proofs.Advance.{acts}
 use Rattle.step_parts.specs.Seen.{IsSeen}
-use Rattle.step_parts.specs.Hands.{IsInHand}
+use Rattle.step_parts.specs.InHand.{IsInHand}
 use Rattle.claim_rule.proofs.Behind.{stays, owed_soundly, shown_behind}
-use Rattle.step_parts.proofs.Front.{IsFront}
-use Rattle.step_parts.proofs.Held.{found_lfh}
-use Rattle.step_parts.proofs.Blocks.{in_lfh, seat_at, granule, words_kept, cleared_word, word_at, at_below}
+use Rattle.step_parts.proofs.FrontEnd.{IsFront}
+use Rattle.step_parts.proofs.BlocksInHand.{found_lfh}
+use Rattle.step_parts.proofs.BlockWords.{in_lfh, seat_at, granule, words_kept, cleared_word, word_at, at_below}
 use Rattle.step_parts.proofs.Starts.{begins, any_removed_other, any_removed_same, found_removed_other, found_changed_other, found_changed_same}
-use Rattle.step_parts.proofs.Hands.{with_lfh, places_only, owed_places, lfh_address, removed_is, changed_is, found_is, size_is, bits_on, starts_on}
+use Rattle.step_parts.proofs.ChangedPlaces.{with_lfh, places_only, owed_places, lfh_address, removed_is, changed_is, found_is, size_is, bits_on, starts_on}
 
 ---- A block in hand
 
+-- the place in hand is one of the front end that begins there
 pub record IsHandOf (m : Configuration) (n addr : ℕ) (p : Place) : Type 0 where
   pub there : IsOneOf p m.state.lfh
   pub starts : p.start ≡ addr
   pub mine : is_in_hand_of n p.status ≡ true
 
+-- where a place of the front end is in hand
 pub hand_is : (m : Configuration) (n addr : ℕ) (p : Place) → HasHomes m.state → hand_at m.state n addr ≡ Some p → p.layer ≡ layers.Lfh → IsHandOf m n addr p
 hand_is m n addr p homes e l =
     let f = subst (λ (k : Layer). find (is_hand_at n addr) (places_of m.state k) ≡ Some p) l (hand_found m.state homes n addr p e) in
@@ -51,6 +52,7 @@ no_size : (n : ℕ) (t : Status) → is_in_hand_of n t ≡ true → unwrap_or (o
 no_size n (Live size) h = absurd (false≢true h)
 no_size n (InHand d) h = refl
 
+-- behind the drop of a block nothing has to follow
 pub no_unspan : (n : ℕ) (o : Option Place) (p : Place) → o ≡ Some p → p.layer ≡ layers.Lfh → unspan_of n o ≡ Nothing
 no_unspan n o p e l = ap (unspan_of n) e ∙ by p l
   where
@@ -119,6 +121,7 @@ module _ (l : Limits) (made : ℕ) (s : Setting) (m : Configuration) (n : ℕ) (
         (λ k lk. stays at v (2182 + 1280 * l.segments + k) _ _ (λ g. omega arith) (size_kept k)))
         (owed_places l dropped m owes at v others state_is refl (owed_soundly l made m owes words shown)) shown
 
+  -- the words where a block is dropped
   pub drops : (head b t i : ℕ) → (c : IsSeen m head b t) → i < block_count b → IsInHand m n (block_address b head i)
       → AreAllShown l made (after s m (entry n (acts.Drop (block_address b head i)))) owes (set words (bitmap_at l head i) (bit_and (get_or words (bitmap_at l head i) 0) (bit_not w64 (bit_of_block i))))
   drops head b t i c =
@@ -131,6 +134,7 @@ module _ (l : Limits) (made : ℕ) (s : Setting) (m : Configuration) (n : ℕ) (
 
   module _ (a : ℕ) (aligned : 16 * (a / 16) ≡ a) (low : a / 16 < 65536 * l.segments) (deed : Deed) (qs : List Place) (v : ℕ) (state_is : (after s m (entry n deed)).state ≡ with_lfh m.state qs) (history : (after s m (entry n deed)).now.span_history ≡ m.now.span_history)
       (starts : (b : ℕ) → starts_at qs b ≡ starts_at m.state.lfh b) (sizes : (k : ℕ) → (16 * k ≡ a → ⊥) → size_word qs k ≡ size_word m.state.lfh k) (size : size_word qs (a / 16) ≡ v) where
+    -- the words where a size word is written
     pub size_shown : AreAllShown l made (after s m (entry n deed)) owes (set words (size_at l a) v)
     size_shown =
         let at : ℕ = size_at l a in
@@ -145,13 +149,16 @@ module _ (l : Limits) (made : ℕ) (s : Setting) (m : Configuration) (n : ℕ) (
 
   -- the place of the front end that begins at a is changed
   module _ (p : Place) (there : IsOneOf p m.state.lfh) (t : Status) (qs : List Place) (qs_is : qs ≡ change_found (begins p.start) (with_status t) m.state.lfh) where
+    -- places begin where they did
     pub changed_starts : (b : ℕ) → starts_at qs b ≡ starts_at m.state.lfh b
     changed_starts b = ap (λ (ps : List Place). starts_at ps b) qs_is ∙ starts_on b (begins p.start) t m.state.lfh
 
+    -- the other size words stay
     pub changed_sizes : (k : ℕ) → (16 * k ≡ p.start → ⊥) → size_word qs k ≡ size_word m.state.lfh k
     changed_sizes k ne = ap (λ (o : Option Place). unwrap_or (option_map (λ q. unwrap_or (option_map (λ n. n + 1) (live_size q.status)) 0) o) 0)
         (ap (find (begins (16 * k))) qs_is ∙ found_changed_other (with_status t) (λ q. refl) (16 * k) p.start m.state.lfh ne)
 
+    -- the size word of the place
     pub changed_size : 16 * (p.start / 16) ≡ p.start → size_word qs (p.start / 16) ≡ unwrap_or (option_map (λ n. n + 1) (live_size t)) 0
     changed_size g = ap (λ (o : Option Place). unwrap_or (option_map (λ q. unwrap_or (option_map (λ n. n + 1) (live_size q.status)) 0) o) 0)
         (ap (λ (z : ℕ). find (begins z) qs) g ∙ (ap (find (begins p.start)) qs_is ∙ found_changed_same (with_status t) (λ q. refl) p.start m.state.lfh p (found_is m.state.lfh f.layers f.apart p there)))

@@ -24,14 +24,15 @@ use Rattle.claim_rule.specs.Entries.{entry}
 use Rattle.lfh_buckets.proofs.Seats.{block_seat}
 use Rattle.span_steps.specs.Installs.{owed_tags, owed_by_span}
 use Rattle.claim_rule.proofs.Behind.{stays, IsBehind, IsOwedSoundly, shown_behind, locks_stay}
-use Rattle.step_parts.proofs.Bits.{same_word_of}
-use Rattle.step_parts.proofs.Front.{IsFront, IsFrontSpan, some_pages}
-use Rattle.step_parts.proofs.Blocks.{in_lfh, into_lfh, seat_at}
+use Rattle.step_parts.proofs.BitmapWords.{same_word_of}
+use Rattle.step_parts.proofs.FrontEnd.{IsFront, IsFrontSpan, some_pages}
+use Rattle.step_parts.proofs.BlockWords.{in_lfh, into_lfh, seat_at}
 use Rattle.step_parts.proofs.Filters.{into_filter, first_from, in_filter}
 use Rattle.step_parts.proofs.Placed.{hint_head}
 
 ---- Owed words
 
+-- the tags of the new pages are owed
 pub tags_here : (first k page y : ℕ) (owes : List Owed) → first ≤ page → page < first + k → owed_or (owed_tags first k owes) (2182 + page) y ≡ 0
 tags_here first zero page y owes low high = absurd (omega arith)
 tags_here first (suc k) page y owes low high = elim (cases_Bool (eqb (2182 + (first + k)) (2182 + page))) [
@@ -47,6 +48,7 @@ tags_else first (suc k) j y owes away =
 
 ---- Spans in order, with one inserted
 
+-- the new span is there
 pub in_inserted : (x : Span) (ys : List Span) → IsOneOf x (insert_span x ys)
 in_inserted x [] = inl refl
 in_inserted x (y ∷ ys) = elim (cases_Bool (nat_lt x.first y.first)) [ inl e ↦ rw e (inl refl) | inr e ↦ rw e (inr (in_inserted x ys)) ]
@@ -101,12 +103,15 @@ module _ (l : Limits) (s : Setting) (m : Configuration) (n first pages b t : ℕ
   abbrev x : Span
   x = record { first = first; pages = pages; kind = kinds.Lfh; bucket = b; slot = t }
 
+  -- what is behind the Span
   abbrev pub made : Configuration
   made = after s m (entry n (acts.Span first pages kinds.Lfh b t))
 
+  -- the word of the hint before
   abbrev pub hint_now : ℕ
   hint_now = owed_or owes (118 + 16 * b + t) (hint_word m.state.back.area m.now.span_history b t)
 
+  -- what is owed then
   abbrev pub owes_made : List Owed
   owes_made = owed_by_span b t hint_now first pages owes
 
@@ -224,6 +229,7 @@ module _ (l : Limits) (s : Setting) (m : Configuration) (n first pages b t : ℕ
           by None u = u
           by (Some y) u = absurd (none_begins y (in_lfh m.state.back.area.spans y (found_in (begins_at first) (lfh_spans m.state.back.area) y u)).0 (eqb-true y.first first (found_passes (begins_at first) (lfh_spans m.state.back.area) y u)))
 
+  -- the parts of the words, none of which is written
   pub made_behind : IsBehind l made m owes_made owes 1 (gate_word m.state.gate)
   made_behind = record {
     gate = record { here = λ e. refl; else = λ e. refl };
@@ -283,6 +289,7 @@ module _ (l : Limits) (s : Setting) (m : Configuration) (n first pages b t : ℕ
           zero_hint None g = ap (λ (z : Option ℕ × List Span). unwrap_or (hint_or z.0 (first_of z.1)) 0) (λ j. (g j, e j))
           zero_hint (Some h) g = absurd (false≢true (sym (ap (list_any (begins_at h)) e) ∙ f.heads b t h g))
 
+  -- readers may go by what is owed
   pub made_soundly : IsOwedSoundly l made owes_made
   made_soundly = record {
     tags = λ page lp. elim (cases_lt page first) [

@@ -31,6 +31,7 @@ lowest_kept t p (x ∷ xs) h = elim (cases_Bool (p x)) [
   ]
 ]
 
+-- the hint behind the Unspan
 pub hint_behind : (s : Setting) (m : Configuration) (n first b t word : ℕ) → word ≡ hint_word m.state.back.area m.now.span_history b t
     → hint_word (after s m (entry n (acts.Unspan first))).state.back.area (after s m (entry n (acts.Unspan first))).now.span_history b t
     ≡ (if eqb word first then unwrap_or (first_of (spans_of (after s m (entry n (acts.Unspan first))).state.back.area b t)) 0 else word)

@@ -19,9 +19,10 @@ use Rattle.claim_rule.specs.Shown.{lfh_spans, bitmap_word}
 use Rattle.lfh_buckets.specs.Blocks.{IsBucket}
 use Rattle.lfh_buckets.proofs.BlockLemmas.{few_blocks}
 use Rattle.lfh_buckets.proofs.Seats.{IsSeat, block_seat, same_number}
-use Rattle.step_parts.proofs.Front.{IsFront, some_pages}
-use Rattle.step_parts.proofs.Bits.{with_bit, cleared, same_word_of, word_with, word_cleared}
+use Rattle.step_parts.proofs.FrontEnd.{IsFront, some_pages}
+use Rattle.step_parts.proofs.BitmapWords.{with_bit, cleared, same_word_of, word_with, word_cleared}
 
+-- subsegments are spans of the kind, and the other way round
 pub in_lfh : (xs : List Span) (x : Span) → IsOneOf x (filter (is_of_kind kinds.Lfh) xs) → IsOneOf x xs × (x.kind ≡ kinds.Lfh)
 in_lfh [] x i = absurd i
 in_lfh (y ∷ ys) x i = elim (cases_Bool (is_kind y.kind kinds.Lfh)) [
@@ -42,9 +43,11 @@ into_lfh (y ∷ ys) x (inr i) k = elim (cases_Bool (is_kind y.kind kinds.Lfh)) [
 ]
 
 module _ (l : Limits) (a : Area) (ps : List Place) (f : IsFront l a ps) where
+  -- the bucket of a subsegment is one
   pub bucket_of_span : (x : Span) → IsOneOf x a.spans → x.kind ≡ kinds.Lfh → IsBucket x.bucket
   bucket_of_span x i k = let b = (f.spans x i k).bucket in record { first = b.0; last = b.1 }
 
+  -- where block i of a subsegment lies
   pub seat_at : (x : Span) (i : ℕ) → IsOneOf x a.spans → x.kind ≡ kinds.Lfh → i < block_count x.bucket → IsSeat l x.first x.pages (block_size x.bucket) (block_address x.bucket x.first i)
   seat_at x i j k below = let s = f.spans x j k in block_seat l x.bucket x.first x.pages i (bucket_of_span x j k) s.pages s.there below
 
@@ -59,6 +62,7 @@ module _ (l : Limits) (a : Area) (ps : List Place) (f : IsFront l a ps) where
       (subst (λ (n : ℕ). y.first ≤ n) (sym page) q.from) (subst (λ (n : ℕ). n < y.first + y.pages) (sym page) q.before) in
       (same, same_number x.bucket x.first i j (bucket_of_span x ix kx) (e ∙ ap (λ (z : Span). block_address z.bucket z.first j) (sym same)))
 
+  -- a subsegment is found by its first page
   pub span_found : (x : Span) → IsOneOf x a.spans → x.kind ≡ kinds.Lfh → find (begins_at x.first) (lfh_spans a) ≡ Some x
   span_found x i k =
       let r = find_some (begins_at x.first) (lfh_spans a) x (into_lfh a.spans x i k) (eq-eqb x.first x.first refl) in
@@ -71,12 +75,15 @@ module _ (l : Limits) (a : Area) (ps : List Place) (f : IsFront l a ps) where
   -- A list of places that has the same first bytes, but for that of block i of x.
   module _ (x : Span) (there : IsOneOf x a.spans) (is : x.kind ≡ kinds.Lfh) (i : ℕ) (below : i < block_count x.bucket) (qs : List Place)
       (kept : (b : ℕ) → (b ≡ block_address x.bucket x.first i → ⊥) → starts_at ps b ≡ starts_at qs b) where
+    -- four words have all bits
     pub few : i / 64 < 4
     few = let n = (few_blocks x.bucket (bucket_of_span x there is)).1 in omega (arith, below, n)
 
+    -- its first page is of a segment
     pub head_below : x.first < 256 * l.segments
     head_below = let s = seat_at x i there is below in let p = s.from in let q = s.page in omega arith
 
+    -- the block begins at a granule
     pub granule : 16 * (block_address x.bucket x.first i / 16) ≡ block_address x.bucket x.first i
     granule = let p = (seat_at x i there is below).aligned in omega arith
 
@@ -91,6 +98,7 @@ module _ (l : Limits) (a : Area) (ps : List Place) (f : IsFront l a ps) where
     whole : 64 * (i / 64) + i % 64 ≡ i
     whole = omega arith
 
+    -- the other words of bitmaps stay
     pub words_kept : (page w : ℕ) → w < 4 → (4 * page + w ≡ 4 * x.first + i / 64 → ⊥) → bitmap_word ps (lfh_spans a) page w ≡ bitmap_word qs (lfh_spans a) page w
     words_kept page w lt other = ap (λ o. unwrap_or o 0) (by_span (find (begins_at page) (lfh_spans a)) refl)
       where
@@ -108,12 +116,14 @@ module _ (l : Limits) (a : Area) (ps : List Place) (f : IsFront l a ps) where
     pub word_here : (rs : List Place) → bitmap_word rs (lfh_spans a) x.first (i / 64) ≡ bits_of rs x (i / 64)
     word_here rs = ap (λ o. unwrap_or (option_map (λ y. bits_of rs y (i / 64)) o) 0) (span_found x there is)
 
+    -- the word where the block has come
     pub set_word : starts_at qs (block_address x.bucket x.first i) ≡ true → with_bit (bits_of ps x (i / 64)) (i % 64) ≡ bits_of qs x (i / 64)
     set_word t =
         word_with (λ n. is_taken ps x (64 * (i / 64) + n)) (λ n. is_taken qs x (64 * (i / 64) + n)) (i % 64) (omega arith)
         (ap (is_taken qs x) whole ∙ (rw (lt-ltb i (block_count x.bucket) below, t) refl))
         (λ j lt n. taken_kept x (64 * (i / 64) + j) there is (λ e g. n (omega (arith, g))))
 
+    -- the word where the block has gone
     pub cleared_word : starts_at qs (block_address x.bucket x.first i) ≡ false → cleared (bits_of ps x (i / 64)) (i % 64) ≡ bits_of qs x (i / 64)
     cleared_word t =
         word_cleared (λ n. is_taken ps x (64 * (i / 64) + n)) (λ n. is_taken qs x (64 * (i / 64) + n)) (i % 64) (omega arith)
@@ -134,5 +144,6 @@ module _ (l : Limits) (a : Area) (ps : List Place) (f : IsFront l a ps) where
     pub word_at : (rs : List Place) → bitmap_word rs (lfh_spans a) ((4 * x.first + i / 64) / 4) ((4 * x.first + i / 64) % 4) ≡ bits_of rs x (i / 64)
     word_at rs = ap (λ (n : ℕ). bitmap_word rs (lfh_spans a) n ((4 * x.first + i / 64) % 4)) at_page ∙ (ap (bitmap_word rs (lfh_spans a) x.first) at_word ∙ word_here rs)
 
+    -- the word is one of the region
     pub at_below : 4 * x.first + i / 64 < 1024 * l.segments
     at_below = omega (arith, head_below, few)

@@ -25,8 +25,8 @@ use Rattle.claim_rule.specs.Rule.{IsRuled, IsReady, ready_after}
 use Rattle.claim_rule.proofs.Lists.{after-append, follow_parts, legal_parts, none_between}
 use Rattle.claim_rule.proofs.Prepared.{carried}
 use Rattle.claim_rule.proofs.Advance.{before, role_of, some_setting, setting_in}
-use Rattle.step_parts.proofs.Front.{usual, valid_setting, through_same}
-use Rattle.step_parts.proofs.Blocks.{in_lfh, into_lfh}
+use Rattle.step_parts.proofs.FrontEnd.{usual, valid_setting, through_same}
+use Rattle.step_parts.proofs.BlockWords.{in_lfh, into_lfh}
 use Rattle.step_parts.specs.Seen.{IsSeen}
 
 spans_through : (s : Setting) (m : Configuration) (fs : List Entry) (c : ℕ) → IsValidSetting s → Keeps s m → may_all_follow s m fs ≡ true → own c fs ≡ [] → is_entered m.state.gate c ≡ true →
@@ -53,15 +53,18 @@ named_front k (x ∷ xs) ys h = let p = and_parts (nat_lt x.caller k) (is_named 
 
 module _ {T : Type 0} (stands : T → LayerState) (o : Opening) (st : TableState (Option T) View) (r : IsRuled stands o st) (id n : ℕ) (v : View) (es : List Entry) (at : get_elem? st.views id ≡ some v) (h : IsReady n v es)
     (s : Setting) (q : IsSettingOf o r.lead.roll s) where
+  -- the setting of the callers
   abbrev pub home : Setting
   home = usual stands o st r id n v es at h s q
 
+  -- what the caller has seen is the same there
   pub seen_same : configuration_of s v.seen ≡ configuration_of home v.seen
   seen_same =
       let k = r.known id v at in
       let names = named_front (length r.lead.roll) v.seen k.seen.list_begins.0 (ap (is_named (length r.lead.roll)) k.seen.list_begins.1 ∙ r.numbers.names) in
       through_same s home (length r.lead.roll) first_configuration v.seen (λ c lt. record { seed = q.seed; slot = q.slot c lt; stream = q.stream c lt }) names
 
+  -- the history is the same there
   pub log_same : configuration_of home r.log ≡ configuration_of s r.log
   log_same = through_same home s (length r.lead.roll) first_configuration r.log (λ c lt. record { seed = sym q.seed; slot = sym (q.slot c lt); stream = sym (q.stream c lt) }) r.numbers.names
 

@@ -31,6 +31,7 @@ in_slot whats.Large q = refl
 in_slot whats.Gate q = absurd q
 in_slot whats.Lfh q = absurd q
 
+-- two locks are one, or differ
 pub same_what : (a b : What) → (a ≡ b) ⊎ (a ≡ b → ⊥)
 same_what a b = elim (cases_eq (lock_at a) (lock_at b)) [
   | inl e ↦ inl (sym (at_word a) ∙ (ap what_at e ∙ at_word b))
@@ -52,6 +53,7 @@ lock_low whats.Back q = (omega arith, omega arith)
 lock_low whats.Large q = (omega arith, omega arith)
 lock_low whats.Gate q = absurd q
 
+-- slots are those of the table
 pub slot_low : (w : What) → HasSlot w → slot_of w < slot_count
 slot_low whats.Vs q = omega arith
 slot_low whats.Back q = omega arith
@@ -59,6 +61,7 @@ slot_low whats.Large q = omega arith
 slot_low whats.Gate q = absurd q
 slot_low whats.Lfh q = absurd q
 
+-- a lock that guards a state is that of a layer
 pub of_layer : (w : What) → HasSlot w → IsLayerLock w
 of_layer whats.Vs q = tt
 of_layer whats.Back q = tt
@@ -68,6 +71,7 @@ of_layer whats.Lfh q = absurd q
 
 ---- A lock changes hands
 
+-- the lock's new holder
 pub holder_here : (k : Locks) (w : What) (h : Option ℕ) → IsLayerLock w → holder_of (put_holder h k w) w ≡ h
 holder_here k whats.Lfh h q = refl
 holder_here k whats.Vs h q = refl
@@ -75,6 +79,7 @@ holder_here k whats.Back h q = refl
 holder_here k whats.Large h q = refl
 holder_here k whats.Gate h q = absurd q
 
+-- the holders of the others
 pub holder_else : (k : Locks) (a b : What) (h : Option ℕ) → (a ≡ b → ⊥) → holder_of (put_holder h k a) b ≡ holder_of k b
 holder_else k whats.Gate b h ne = refl
 holder_else k whats.Lfh whats.Lfh h ne = absurd (ne refl)

@@ -25,9 +25,9 @@ use Rattle.claim_rule.specs.Shown.{AreAllShown, lfh_spans, tag_of, bitmap_word, 
 use Rattle.claim_rule.specs.Entries.{entry}
 use Rattle.span_steps.specs.Retires.{is_of_span, owed_by_retire}
 use Rattle.claim_rule.proofs.Behind.{stays, IsBehind, IsOwedSoundly, shown_behind, locks_stay}
-use Rattle.step_parts.proofs.Bits.{same_word_of}
-use Rattle.step_parts.proofs.Front.{IsFront, some_pages}
-use Rattle.step_parts.proofs.Blocks.{in_lfh, one_span, span_found}
+use Rattle.step_parts.proofs.BitmapWords.{same_word_of}
+use Rattle.step_parts.proofs.FrontEnd.{IsFront, some_pages}
+use Rattle.step_parts.proofs.BlockWords.{in_lfh, one_span, span_found}
 use Rattle.step_parts.proofs.Filters.{into_filter, first_from, in_filter}
 
 ---- Owed words, some of which are owed no more
@@ -94,15 +94,18 @@ module _ (l : Limits) (s : Setting) (m : Configuration) (n first pages b t : ℕ
   abbrev x : Span
   x = record { first = first; pages = pages; kind = kinds.Lfh; bucket = b; slot = t }
 
+  -- what is behind the Unspan
   abbrev pub freed : Configuration
   freed = after s m (entry n (acts.Unspan first))
 
+  -- what is owed then
   abbrev pub owes_freed : List Owed
   owes_freed = owed_by_retire b t first pages owes
 
   some : 0 < pages
   some = some_pages 0 m.state.back.area.spans x fr.order there
 
+  -- the span that goes is this one
   pub found : (z : Span) → find (begins_at first) m.state.back.area.spans ≡ Some z → z ≡ x
   found z e =
       same_first 0 m.state.back.area.spans z x fr.order (found_in (begins_at first) m.state.back.area.spans z e) there
@@ -353,5 +356,6 @@ module _ (l : Limits) (s : Setting) (m : Configuration) (n first pages b t : ℕ
     paid = λ e. absurd (let z : None ≡ Some n = sym e ∙ held in let w : ⊥ = cc (z) in w);
   }
 
+  -- the words show the rest
   pub freed_shown : (count v : ℕ) (words : List ℕ) → hint_word freed.state.back.area freed.now.span_history b t ≡ v → AreAllShown l count m owes words → AreAllShown l count freed owes_freed (set words (118 + 16 * b + t) v)
   freed_shown count v words value h = shown_behind l count freed m owes_freed owes words (118 + 16 * b + t) v (omega arith) (omega arith) (freed_behind v value) freed_soundly h
