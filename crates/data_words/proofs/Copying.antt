@@ -25,7 +25,7 @@ pub data AreData (n : ℕ) : List Entry → Type 0 where
 
 module _ (s : Setting) (n : ℕ) (m k : Configuration) (r : AgreesFor n m k) where
   own_call : (x y : CallState) → x ≡ y → updated m.now.calls n x n ≡ updated k.now.calls n y n
-  own_call x y e = let h = Rattle.std.proofs.Common.eq-eqb n n refl in rw (h, h) e
+  own_call x y e = let h = Rattle.std.proofs.Common.eq-eqb n n refl in rw h e
 
   load_agrees : (w v : ℕ) → AgreesFor n (after s m (entry n (acts.Load w v))) (after s k (entry n (acts.Load w v)))
   load_agrees w v = record {
@@ -115,7 +115,7 @@ copies_more n from to v (x ∷ xs) =
     ap (λ (l : List Entry). entry n (acts.Load from x) ∷ entry n (acts.Store to x) ∷ l) (copies_more n (from + 1) (to + 1) v xs
     ∙ (λ j. copies n (from + 1) (to + 1) xs ++ entry n (acts.Load (a j) v) ∷ entry n (acts.Store (b j) v) ∷ []))
 
-stands_then : (a b c : Token) → Stands b (stance a) → Stands c (stance b) → Stands c (stance a)
+pub stands_then : (a b c : Token) → Stands b (stance a) → Stands c (stance b) → Stands c (stance a)
 stands_then a b c x y = record {
   call = y.call ∙ x.call;
   fresh = y.fresh ∙ x.fresh;

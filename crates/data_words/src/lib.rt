@@ -72,6 +72,7 @@ pub fn copy<T: Stands>(heap: &Heap<T>, c: &mut Caller<T>, from: u64, to: u64, n:
     requires target { to + n ≤ data_count c.old.opening.limits }
     ensures { (values : List ℕ) × (length values ≡ n) × IsCopied c.old c.new from to values }
 {
+    let _bounds = heap.limits();
     for k in 0..n {
         let value = load(heap, c, from + k);
         store(heap, c, to + k, value);

@@ -65,7 +65,7 @@ module _ (h : HeapToken) (old new : Token) (i : Bool) (k : IsSettled h old i) wh
   rested call true = record { inside = k.inside_is; out = k.out; free = k.free; searched = k.searched; drawn = k.drawn }
   rested call false = record { inside = k.inside_is; out = k.out; free = k.free; searched = refl; drawn = refl }
 
-  begins_is : (call : Call) → begins old call ≡ entry old.number (acts.Begin call) ∷ []
+  pub begins_is : (call : Call) → begins old call ≡ entry old.number (acts.Begin call) ∷ []
   begins_is call = ap (λ (b : Bool). cond b [] (entry old.number (acts.Begin call) ∷ [])) k.pending
 
   depth_is : (call : Call) → (begun_with old call).depth ≡ old.depth

@@ -22,11 +22,11 @@ use Rattle.claim_rule.specs.Home.{HasSlot, slot_of, Tells}
 use Rattle.claim_rule.proofs.Lists.{prefix_self, prefix_trans}
 use Rattle.lock_steps.specs.Locks.{IsPaid, owed_with}
 use Rattle.heap_gate.specs.Token.{HeapToken, Token}
-use Rattle.heap_gate.specs.Calls.{Does, Stance, stance, Stands, HasEntered, HasLeft, HasTaken, HasMissed, HasGiven, begun_with, begins}
+use Rattle.heap_gate.specs.Calls.{Does, stance, HasEntered, HasTurnedBack, HasLeft, HasTaken, HasMissed, HasGiven, begun_with, begins}
 use Rattle.heap_gate.specs.Roots.{is_of}
 use Rattle.heap_gate.specs.Counts.{counted, IsSettled}
 use Rattle.heap_gate.specs.Turns.{takes, TakesOn}
-use Rattle.heap_gate.proofs.Counting.{counted-append}
+use Rattle.heap_gate.proofs.Counting.{counted-append, begins_is}
 
 pub takes_on : (old new : Token) (es : List Entry) → old.prepared ≡ [] → Does old new es → TakesOn old new (counted takes es)
 takes_on old new es none d = record {
@@ -62,45 +62,30 @@ nothing_left whats.Lfh o st t h e b k = absurd h
 ---- A turn
 
 module _ (h : HeapToken) (old new : Token) (i : Bool) (k : IsSettled h old i) where
-  still : (es : List Entry) → Does old new es → Stands new (stance old) → IsSettled h new i
-  still es d s = record {
-    table = d.table ∙ k.table;
-    opening = d.opening ∙ k.opening;
-    inside_is = s.inside ∙ k.inside_is;
-    prepared = s.prepared;
-    pending = s.pending;
-    out = s.out ∙ k.out;
-    whole = s.whole;
-    free = s.free ∙ k.free;
-    searched = s.searched ∙ k.searched;
-    drawn = s.drawn ∙ k.drawn;
-  }
-
   -- another caller has the lock
-  pub has_missed_turn : (what : What) (word : ℕ) → HasMissed old new what what word → IsSettled h new i × (new.depth ≡ old.depth) × TakesOn old new 0
-  has_missed_turn what word x = (still (entry old.number (acts.Blocked what word) ∷ []) x.runs.does x.stands, x.stands.depth, takes_on old new (entry old.number (acts.Blocked what word) ∷ []) k.prepared x.runs.does)
+  pub has_missed_turn : (what found : What) (word : ℕ) → HasMissed old new what found word → TakesOn old new 0
+  has_missed_turn what found word x = takes_on old new (entry old.number (acts.Blocked what word) ∷ []) k.prepared x.runs.does
 
   -- the lock was taken and given back
-  pub has_turned_lock : {T : Type 0} (tells : T → LayerState) (between : Token) (what : What) (state : T) → HasTaken tells old between what state → HasGiven between new what (entry between.number (acts.GiveLock what) ∷ [])
-      → IsSettled h new i × (new.depth ≡ old.depth) × TakesOn old new 1
+  pub has_turned_lock : {T : Type 0} (tells : T → LayerState) (between : Token) (what : What) (state : T) → HasTaken tells old between what state → HasGiven between new what (entry between.number (acts.GiveLock what) ∷ []) → TakesOn old new 1
   has_turned_lock tells between what state x y =
-      let s = y.stands [] (x.stands.out ∙ ap (λ (l : List ℕ). slot_of what ∷ l) k.out) in
-      (
-        record {
-          table = y.runs.does.table ∙ (x.reveals.does.table ∙ k.table);
-          opening = y.runs.does.opening ∙ (x.reveals.does.opening ∙ k.opening);
-          inside_is = s.inside ∙ (x.stands.inside ∙ k.inside_is);
-          prepared = s.prepared;
-          pending = s.pending;
-          out = s.out;
-          whole = s.whole;
-          free = s.free ∙ (x.stands.free ∙ k.free);
-          searched = s.searched ∙ (x.stands.searched ∙ k.searched);
-          drawn = s.drawn ∙ (x.stands.drawn ∙ k.drawn);
-        },
-        s.depth ∙ x.stands.depth,
-        takes_trans old between new 1 0 (takes_on old between (entry old.number (acts.TakeLock what) ∷ []) k.prepared x.reveals.does) (takes_on between new (entry between.number (acts.GiveLock what) ∷ []) x.stands.prepared y.runs.does),
-      )
+      takes_trans old between new 1 0 (takes_on old between (entry old.number (acts.TakeLock what) ∷ []) k.prepared x.reveals.does) (takes_on between new (entry between.number (acts.GiveLock what) ∷ []) x.stands.prepared y.runs.does)
+
+  pub entered_takes : HasEntered old new (stance (begun_with old calls.Stay)) (begins old calls.Stay ++ entry old.number acts.Enter ∷ []) → TakesOn old new 0
+  entered_takes x = takes_on old new (entry old.number (acts.Begin calls.Stay) ∷ entry old.number acts.Enter ∷ []) k.prepared
+      (subst (λ (b : List Entry). Does old new (b ++ entry old.number acts.Enter ∷ [])) (begins_is h old new i k calls.Stay) x.runs.does)
+
+  pub turned_takes : (what : What) (word : ℕ) → HasTurnedBack old new (stance (begun_with old calls.Stay)) what word (begins old calls.Stay ++ entry old.number (acts.Blocked whats.Gate word) ∷ entry old.number acts.Leave ∷ []) → TakesOn old new 0
+  turned_takes what word x = takes_on old new (entry old.number (acts.Begin calls.Stay) ∷ entry old.number (acts.Blocked whats.Gate word) ∷ entry old.number acts.Leave ∷ []) k.prepared
+      (subst (λ (b : List Entry). Does old new (b ++ entry old.number (acts.Blocked whats.Gate word) ∷ entry old.number acts.Leave ∷ [])) (begins_is h old new i k calls.Stay) x.runs.does)
+
+  pub left_takes : HasLeft old new (entry old.number acts.Leave ∷ []) → TakesOn old new 0
+  left_takes x = takes_on old new (entry old.number acts.Leave ∷ []) k.prepared x.runs.does
+
+pub takes_around : (a b c d : Token) (n : ℕ) → TakesOn a b 0 → TakesOn b c n → TakesOn c d 0 → TakesOn a d n
+takes_around a b c d n x y z =
+    let p = x.takes_are in let q = y.takes_are in let r = z.takes_are in
+    record { number = z.number ∙ (y.number ∙ x.number); seen = prefix_trans a.seen b.seen d.seen x.seen (prefix_trans b.seen c.seen d.seen y.seen z.seen); takes_are = omega arith }
 
 ---- All that two callers have taken
 

@@ -3,7 +3,7 @@ ghost use Rattle.heap_model.specs.History.{own};
 ghost use Rattle.claim_rule.specs.Home.{HasSlot};
 ghost use Rattle.heap_gate.specs.Token.{HeapToken, Token, count};
 ghost use Rattle.heap_gate.specs.Calls.{IsUnder};
-ghost use Rattle.heap_gate.specs.Roots.{RootToken};
+ghost use Rattle.heap_gate.specs.Roots.{RootToken, is_of};
 ghost use Rattle.heap_gate.specs.Counts.{AreTwo, IsSettled, counted};
 ghost use Rattle.heap_gate.specs.Turns.{takes, TakesOn};
 
@@ -32,14 +32,12 @@ struct Counter {
 }
 
 impl Stands for Counter {
-    ghost use Rattle.std.specs.Prelude.{[]};
-    ghost use Rattle.heap_model.specs.State.{opening};
-    ghost use Rattle.heap_model.specs.Layers.{header_key};
+    ghost use Rattle.heap_gate.specs.Turns.{nothing_of};
 
-    ghost stands = { λ e. record { lock = e.lock; limits = record { segments = 1; large_pages = 0; slots = 2; callers = 2 }; key = header_key 42; back = opening.back; vs = opening.vs; vs_spans = []; large = [] } };
+    ghost stands = { λ e. nothing_of e.lock };
 }
 
-fn counter(lock: What) -> Counter
+fn unused(lock: What) -> Counter
     ensures { result ≡ record { lock = lock; turns = 0 } }
 {
     Counter { lock, turns: 0 }
@@ -55,9 +53,9 @@ fn two(
         alloc,
         LIMITS,
         SEED,
-        counter(What::Vs),
-        counter(What::Back),
-        counter(What::Large),
+        unused(What::Vs),
+        unused(What::Back),
+        unused(What::Large),
     )?;
     let a = make_caller(&heap, &mut root, SEED, 0, 7);
     let b = make_caller(&heap, &mut root, SEED, 1, 54);
@@ -87,7 +85,7 @@ fn turn(heap: &Heap<Counter>, c: &mut Caller<Counter>, what: What, inside: bool)
     requires settled { IsSettled heap.now c.old inside }
     requires under { IsUnder inside c.old.depth }
     requires slot { HasSlot what }
-    ensures settled { IsSettled heap.now c.new inside × (c.new.depth ≡ c.old.depth) }
+    ensures settled { IsSettled heap.now c.new inside × (c.new.depth ≡ c.old.depth) × (c.new.number ≡ c.old.number) }
     ensures takes { TakesOn c.old c.new (count (is_some result)) }
 {
     let mut state = match take_lock(heap, c, what) {
@@ -110,7 +108,7 @@ fn turn_once(
 )
     requires settled { IsSettled heap.now c.old true }
     requires slot { HasSlot what }
-    ensures settled { IsSettled heap.now c.new true × (c.new.depth ≡ c.old.depth) }
+    ensures settled { IsSettled heap.now c.new true × (c.new.depth ≡ c.old.depth) × (c.new.number ≡ c.old.number) }
 {
     assert_eq!(rt; turn(heap, c, what, true), Some(turns));
 }
@@ -174,8 +172,8 @@ fn turn_while_held(
 )
     requires a { IsSettled heap.now a.old true }
     requires b { IsSettled heap.now b.old true }
-    ensures a { IsSettled heap.now a.new true × (a.new.depth ≡ a.old.depth) }
-    ensures b { IsSettled heap.now b.new true × (b.new.depth ≡ b.old.depth) }
+    ensures a { IsSettled heap.now a.new true × (a.new.depth ≡ a.old.depth) × (a.new.number ≡ a.old.number) }
+    ensures b { IsSettled heap.now b.new true × (b.new.depth ≡ b.old.depth) × (b.new.number ≡ b.old.number) }
 {
     let what = What::Vs;
     let Ok(mut state) = take_lock(heap, a, what) else {
@@ -189,7 +187,7 @@ fn turn_while_held(
 // Finds this word in place of a free lock of the variable-size layer.
 fn be_missed(rt: &impl Abort, heap: &Heap<Counter>, c: &mut Caller<Counter>, word: u64)
     requires { IsSettled heap.now c.old true }
-    ensures { IsSettled heap.now c.new true × (c.new.depth ≡ c.old.depth) }
+    ensures { IsSettled heap.now c.new true × (c.new.depth ≡ c.old.depth) × (c.new.number ≡ c.old.number) }
 {
     let what = What::Vs;
     let Err(busy) = take_lock(heap, c, what) else {
@@ -203,7 +201,7 @@ fn be_missed(rt: &impl Abort, heap: &Heap<Counter>, c: &mut Caller<Counter>, wor
 fn turn_outside(rt: &impl Abort, heap: &Heap<Counter>, c: &mut Caller<Counter>)
     requires settled { IsSettled heap.now c.old false }
     requires free { c.old.depth ≡ 0 }
-    ensures { IsSettled heap.now c.new false × (c.new.depth ≡ 0) }
+    ensures { IsSettled heap.now c.new false × (c.new.depth ≡ 0) × (c.new.number ≡ c.old.number) }
 {
     lock_gate(heap, c).expect(rt, "takes the heap lock");
     assert_eq!(rt; turn(heap, c, What::Back, false), Some(1));
@@ -221,9 +219,10 @@ fn the_owner_takes_a_lock_from_outside(rt: HostRuntime) -> Result<(), Fail> {
 // Prepares as many entries as a token keeps, and carries them by one step.
 fn prepare_all(heap: &Heap<Counter>, c: &mut Caller<Counter>)
     requires { IsSettled heap.now c.old false }
-    ensures { IsSettled heap.now c.new false × (c.new.depth ≡ c.old.depth) × (length (own c.new.number c.new.seen) ≡ length (own c.old.number c.old.seen) + 16) }
+    ensures settled { IsSettled heap.now c.new false × (c.new.depth ≡ c.old.depth) × (c.new.number ≡ c.old.number) }
+    ensures many { length (own c.old.number c.new.seen) ≡ length (own c.old.number c.old.seen) + 16 }
 {
-    for _ in 0..16 {
+    for _ in 0..16u32 {
         begin(c, Call::Stay);
     }
     settle(heap, c);
@@ -242,7 +241,7 @@ fn sixteen_entries_are_carried_by_one_step(rt: HostRuntime) -> Result<(), Fail> 
 // So many turns at the lock of the variable-size layer. It answers how often the caller had it.
 fn turns(heap: &Heap<Counter>, c: &mut Caller<Counter>, many: u32) -> u32
     requires { IsSettled heap.now c.old true }
-    ensures settled { IsSettled heap.now c.new true × (c.new.depth ≡ c.old.depth) }
+    ensures settled { IsSettled heap.now c.new true × (c.new.depth ≡ c.old.depth) × (c.new.number ≡ c.old.number) }
     ensures takes { TakesOn c.old c.new result }
 {
     let mut taken = 0;
@@ -281,7 +280,7 @@ fn in_two_threads<R: Threads + Sync>(
     requires fresh { (a.seen ≡ []) × (b.seen ≡ []) }
     ensures a { counted takes (own 0 result.0.last.value.seen) ≡ result.1 }
     ensures b { counted takes (own 1 result.0.last.value.seen) ≡ result.2 }
-    ensures all { counted takes result.0.last.value.seen ≡ result.1 + result.2 }
+    ensures both { is_of (1 ∷ 0 ∷ []) result.0.last.value.seen ≡ true }
 {
     let shared = &heap;
     let ((a, a_taken), (b, b_taken)) = thread::join(
@@ -300,10 +299,26 @@ fn in_two_threads<R: Threads + Sync>(
     (close_table(heap, root), a_taken, b_taken)
 }
 
+// .. which are all of its locks taken.
+fn all_turns<R: Threads + Sync>(
+    rt: &R,
+    heap: Heap<Counter>,
+    root: Root<Counter>,
+    a: Caller<Counter>,
+    b: Caller<Counter>,
+    many: u32,
+) -> (Closed<Counter>, u32, u32)
+    requires two { AreTwo heap root a b }
+    requires fresh { (a.seen ≡ []) × (b.seen ≡ []) }
+    ensures { counted takes result.0.last.value.seen ≡ result.1 + result.2 }
+{
+    in_two_threads(rt, heap, root, a, b, many)
+}
+
 #[test]
 fn the_state_goes_from_thread_to_thread(rt: HostRuntime) -> Result<(), Fail> {
     let (heap, root, a, b) = two(rt.alloc())?;
-    let (closed, a, b) = in_two_threads(&rt, heap, root, a, b, 20000);
+    let (closed, a, b) = all_turns(&rt, heap, root, a, b, 20000);
     assert_eq!(rt; closed.vs.turns, u64::from(a) + u64::from(b));
     assert!(rt; a > 0 && b > 0);
     Ok(())
