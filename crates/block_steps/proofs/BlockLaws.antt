@@ -1,5 +1,5 @@
 -- The laws of a block in hand and of size words.
-use Rattle.std.proofs.Common.{◌≡◌, ℕ, ◌+◌, ◌-◌, ◌*◌, ◌/◌, true, ◌&&◌, List, [], ◌∷◌, ◌++◌, get_or, set, bit_and, w64, refl, sym, ap, ◌∙◌, subst, arith, Option, Some, inl, inr, eq-eqb}
+use Rattle.std.proofs.Common.{◌%◌, ◌≡◌, ℕ, ◌+◌, ◌-◌, ◌*◌, ◌/◌, true, ◌&&◌, List, [], ◌∷◌, ◌++◌, get_or, set, bit_and, w64, refl, sym, ap, ◌∙◌, subst, arith, Option, Some, inl, inr, eq-eqb}
 use Rattle.std.specs.Prelude.{nat_le, nat_lt, is_some}
 use Rattle.std.specs.Int.{bit_not}
 use Rattle.std.proofs.lemmas.Bool.{cases_eq, and_parts, and_from, leb-true, ltb-true}
@@ -45,6 +45,14 @@ use Rattle.step_parts.proofs.Stays.{still_there, seen_still}
 use Rattle.claim_rule.proofs.Ready.{stable_here}
 use Rattle.block_steps.proofs.InHandWords.{no_unspan, drops, gives_size, takes_size}
 use Rattle.block_steps.proofs.SizeWords.{not_live, live_there, block_there}
+use Rattle.step_parts.specs.Seen.{IsTagged, first_of_tag, bucket_of_tag, slot_of_tag}
+use Rattle.step_parts.proofs.Tags.{tag_parts}
+
+-- a caller may ask the size word of an address by the tag of its page
+pub ask_by_tag : (m : Configuration) (n addr word : ℕ) → is_some (m.now.calls n).call ≡ true → is_entered m.state.gate n ≡ true → IsTagged m (addr / 4096) word → addr % 16 ≡ 0 → MayAsk m n (first_of_tag word) (bucket_of_tag word) (slot_of_tag word) addr
+ask_by_tag m n addr word begun inside h aligned =
+    let p = tag_parts m (addr / 4096) word h in
+    record { begun = begun; inside = inside; seen = record { span = h.span; there = h.there; begins = p.0; bucket = p.1; slot = p.2 }; has_page = h.has_page; aligned = aligned }
 
 in_left : {A : Type 0} (x : A) (xs ys : List A) → IsOneOf x xs → IsOneOf x (xs ++ ys)
 in_left x [] ys i = absurd i

@@ -157,7 +157,7 @@ out_same s n m k r h = record {
 }
 
 -- who may leave is counted
-leaver_counted : (m : Configuration) (n : ℕ) → IsCounted m.state.gate → may_leave (caller_view m n) (hands m.state n) ≡ true → is_among n m.state.gate.counted ≡ true
+pub leaver_counted : (m : Configuration) (n : ℕ) → IsCounted m.state.gate → may_leave (caller_view m n) (hands m.state n) ≡ true → is_among n m.state.gate.counted ≡ true
 leaver_counted m n k h = elim (or_cases (is_among n m.state.gate.turning) _ h) [
   | inl t ↦ k.turning n t
   | inr t ↦ (and_parts (is_among n m.state.gate.counted) _ (and_parts (caller_view m n).entered _ (and_parts _ _ t).0).0).0

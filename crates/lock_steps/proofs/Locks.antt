@@ -23,7 +23,7 @@ use Rattle.heap_model.specs.declared.Opening.{Opening}
 use Rattle.claim_rule.specs.declared.views.Owed.{Owed}
 use Rattle.claim_rule.specs.declared.views.View.{View}
 use Rattle.claim_rule.specs.Places.{lock_at, word_count}
-use Rattle.claim_rule.specs.Shown.{lfh_spans}
+use Rattle.claim_rule.specs.Shown.{lfh_spans, AreAllShown, holder_from, back_holder}
 use Rattle.heap_model.specs.Layers.{LayerState}
 use Rattle.claim_rule.specs.Home.{AreHome, slot_of, HasSlot, Tells}
 use Rattle.claim_rule.specs.Entries.{IsSettingOf, setting_of, entry, is_by}
@@ -261,12 +261,19 @@ module _ {T : Type 0} (stands : T → LayerState) (o : Opening) where
         let mine = back_holder_is s r.log ∙ (sym (ap (λ (f : GateAndLocks). f.locks.back) (before stands o st r id n me.0 es at h s q).carried.gate) ∙ e) in
         sym ((role_of stands o st r id n me.0 at h.role).5 mine) ∙ p
 
-    owing : (w : What) → HasSlot w → IsOwing stands n r.owes r.owes me.0.owes (r.log ++ (es ++ entry n (acts.GiveLock w) ∷ []))
-    owing whats.Vs q = owes_still stands o st r id n me.0 es at h (entry n (acts.GiveLock whats.Vs) ∷ []) (λ k. refl)
-    owing whats.Large q = owes_still stands o st r id n me.0 es at h (entry n (acts.GiveLock whats.Large) ∷ []) (λ k. refl)
-    owing whats.Back q = record { same = inl refl; known = λ e. absurd (let z : None ≡ Some n = sym (holder_behind stands o st r id n me.0 es at h (entry n (acts.GiveLock whats.Back) ∷ [])) ∙ e in let w : ⊥ = cc (z) in w) }
-    owing whats.Gate q = absurd q
-    owing whats.Lfh q = absurd q
+    -- what is owed, whatever entries come before that leave Back with whom it is
+    owing : (front : List Entry) → ((h : Option ℕ) (xs : List Entry) → holder_from h (front ++ xs) ≡ holder_from h xs) → (w : What) → HasSlot w
+        → IsOwing stands n r.owes r.owes me.0.owes (r.log ++ (es ++ (front ++ entry n (acts.GiveLock w) ∷ [])))
+    owing front same whats.Vs q = owes_still stands o st r id n me.0 es at h (front ++ entry n (acts.GiveLock whats.Vs) ∷ []) (λ k. same k (entry n (acts.GiveLock whats.Vs) ∷ []))
+    owing front same whats.Large q = owes_still stands o st r id n me.0 es at h (front ++ entry n (acts.GiveLock whats.Large) ∷ []) (λ k. same k (entry n (acts.GiveLock whats.Large) ∷ []))
+    owing front same whats.Back q = record {
+      same = inl refl;
+      known = λ e.
+          let back : List Entry = front ++ entry n (acts.GiveLock whats.Back) ∷ [] in
+          let z : None ≡ Some n = sym (holder_behind stands o st r id n me.0 es at h back ∙ same (back_holder r.log) (entry n (acts.GiveLock whats.Back) ∷ [])) ∙ e in absurd (let w : ⊥ = cc (z) in w);
+    }
+    owing front same whats.Gate q = absurd q
+    owing front same whats.Lfh q = absurd q
 
     owed_behind : (s : Setting) → IsSettingOf o r.lead.roll s → (w : What) → HasSlot w → holder_of (back_to s).state.gate.locks w ≡ Some n → IsPaid w me.0.owes → IsOwedSoundly o.limits (back_to s) r.owes → IsOwedSoundly o.limits (after s (back_to s) (entry n (acts.GiveLock w))) r.owes
     owed_behind s q whats.Vs has e p f = still_owed o.limits (after s (back_to s) (entry n (acts.GiveLock whats.Vs))) (back_to s) r.owes refl refl refl f
@@ -282,57 +289,49 @@ module _ {T : Type 0} (stands : T → LayerState) (o : Opening) where
     hints_on s whats.Gate q b t = absurd q
     hints_on s whats.Lfh q b t = absurd q
 
+    -- the words and the slots behind the step
+    given_shown : (s : Setting) → IsSettingOf o r.lead.roll s → AreAllShown o.limits r.lead.counted (after s (back_to s) (entry n (acts.GiveLock what))) r.owes (set st.words (lock_at what) 0)
+    given_shown s q =
+        let b = before stands o st r id n me.0 es at h s q in
+        let low = lock_low what (of_layer what has) in
+        let wide : lock_at what < word_count o.limits = omega arith in
+        shown_behind o.limits r.lead.counted (after s (back_to s) (entry n (acts.GiveLock what))) (back_to s) r.owes r.owes st.words (lock_at what) 0 (omega arith) wide
+        (lock_behind o.limits (back_to s) (after s (back_to s) (entry n (acts.GiveLock what))).now r.owes what None has (hints_on s what has))
+        (owed_behind s q what has (mine s q) paid (owed_soundly o.limits r.lead.counted (back_to s) r.owes st.words b.words))
+        b.words
+
+    given_home : (s : Setting) → IsSettingOf o r.lead.roll s → AreHome stands o (after s (back_to s) (entry n (acts.GiveLock what))).state (put_back st.homes me.1)
+    given_home s q =
+        subst (λ (c : List (ℕ × Option T)). AreHome stands o (after s (back_to s) (entry n (acts.GiveLock what))).state (put_back st.homes c)) (sym top)
+        (homes_given stands o (back_to s) st.homes what state has (tells_here s q) (before stands o st r id n me.0 es at h s q).home)
+
+    begun_here : (s : Setting) → IsSettingOf o r.lead.roll s → is_some ((back_to s).now.calls n).call ≡ true
+    begun_here s q = ap (λ (c : CallState). is_some c.call) (before stands o st r id n me.0 es at h s q).carried.agrees.call ∙ (ok s (in_view s q)).0.begun
+
     -- a lock is given back
     pub gives_lock : (w : View) × (a : Act (Option T)) × Valid st.homes me.1 a × IsRuled stands o (stepped st (lock_at what) 0 id me.1 w a) × gave what es (step slots (lock_at what) 0 0 none) me 0 (w, carried_after me.1 a)
     gives_lock =
-        let low = lock_low what (of_layer what has) in
-        let a = leaves stands o st r id n me.0 es at h me.1 (lock_at what) 0 gives (entry n (acts.GiveLock what) ∷ []) r.owes me.0.owes (one_by n (acts.GiveLock what)) (owing what has)
-        (λ s q.
-        let b = before stands o st r id n me.0 es at h s q in
-        let begun = ap (λ (c : CallState). is_some c.call) b.carried.agrees.call ∙ (ok s (in_view s q)).0.begun in
-        let wide : lock_at what < word_count o.limits = omega arith in (
-          one_follows s (back_to s) n (acts.GiveLock what) b.whole begun (give_ok s q),
-          refl,
-          shown_behind o.limits r.lead.counted (after s (back_to s) (entry n (acts.GiveLock what))) (back_to s) r.owes r.owes st.words (lock_at what) 0 (omega arith) wide
-              (lock_behind o.limits (back_to s) (after s (back_to s) (entry n (acts.GiveLock what))).now r.owes what None has (hints_on s what has))
-              (owed_behind s q what has (mine s q) paid (owed_soundly o.limits r.lead.counted (back_to s) r.owes st.words b.words))
-              b.words,
-          subst (λ (c : List (ℕ × Option T)). AreHome stands o (after s (back_to s) (entry n (acts.GiveLock what))).state (put_back st.homes c)) (sym top) (homes_given stands o (back_to s) st.homes what state has (tells_here s q) b.home),
-        )) in
+        let a = leaves stands o st r id n me.0 es at h me.1 (lock_at what) 0 gives (entry n (acts.GiveLock what) ∷ []) r.owes me.0.owes (one_by n (acts.GiveLock what)) (owing [] (λ h xs. refl) what has)
+        (λ s q. (one_follows s (back_to s) n (acts.GiveLock what) (before stands o st r id n me.0 es at h s q).whole (begun_here s q) (give_ok s q), refl, given_shown s q, given_home s q)) in
         (a.0, gives, tt, a.1, record { adds = adds_of me (a.0, rest me.1) n es (acts.GiveLock what) h.role a.2; slot = λ t more' e. ap (λ (c : List (ℕ × Option T)). rest c) e; owes = a.3 })
 
     ---- .. where the caller also says that no live block has an address
 
     module _ (a : ℕ) (not_there : (s : Setting) → IsSettingOf o r.lead.roll s → may s (back_to s) n (acts.NotLive a) ≡ true) where
-      owing_denied : (w : What) → HasSlot w → IsOwing stands n r.owes r.owes me.0.owes (r.log ++ (es ++ entry n (acts.NotLive a) ∷ entry n (acts.GiveLock w) ∷ []))
-      owing_denied whats.Vs q = owes_still stands o st r id n me.0 es at h (entry n (acts.NotLive a) ∷ entry n (acts.GiveLock whats.Vs) ∷ []) (λ k. refl)
-      owing_denied whats.Large q = owes_still stands o st r id n me.0 es at h (entry n (acts.NotLive a) ∷ entry n (acts.GiveLock whats.Large) ∷ []) (λ k. refl)
-      owing_denied whats.Back q = record { same = inl refl; known = λ e. absurd (let z : None ≡ Some n = sym (holder_behind stands o st r id n me.0 es at h (entry n (acts.NotLive a) ∷ entry n (acts.GiveLock whats.Back) ∷ [])) ∙ e in let w : ⊥ = cc (z) in w) }
-      owing_denied whats.Gate q = absurd q
-      owing_denied whats.Lfh q = absurd q
-
       -- both entries are added with one step
       pub gives_denied : (w : View) × (a' : Act (Option T)) × Valid st.homes me.1 a' × IsRuled stands o (stepped st (lock_at what) 0 id me.1 w a') × Goes (number_of me.0.role) me.0 w es (entry (number_of me.0.role) (acts.NotLive a) ∷ entry (number_of me.0.role) (acts.GiveLock what) ∷ []) × (w.owes ≡ me.0.owes) × (carried_after me.1 a' ≡ rest me.1)
       gives_denied =
-          let low = lock_low what (of_layer what has) in
           let x = leaves stands o st r id n me.0 es at h me.1 (lock_at what) 0 gives (entry n (acts.NotLive a) ∷ entry n (acts.GiveLock what) ∷ []) r.owes me.0.owes
-          (and_from (n == n) (is_by n (entry n (acts.GiveLock what) ∷ [])) (eq-eqb n n refl) (one_by n (acts.GiveLock what))) (owing_denied what has)
+          (and_from (n == n) (is_by n (entry n (acts.GiveLock what) ∷ [])) (eq-eqb n n refl) (one_by n (acts.GiveLock what))) (owing (entry n (acts.NotLive a) ∷ []) (λ h xs. refl) what has)
           (λ s q.
-          let b = before stands o st r id n me.0 es at h s q in
-          let begun = ap (λ (c : CallState). is_some c.call) b.carried.agrees.call ∙ (ok s (in_view s q)).0.begun in
-          let wide : lock_at what < word_count o.limits = omega arith in
           let first : Configuration = after s (back_to s) (entry n (acts.NotLive a)) in
           let view : caller_view first n ≡ caller_view (back_to s) n = view_denied s (back_to s) n a in (
-            follow_join s (back_to s) (entry n (acts.NotLive a) ∷ []) (entry n (acts.GiveLock what) ∷ []) (one_follows s (back_to s) n (acts.NotLive a) b.whole begun (not_there s q))
-                (one_follows s first n (acts.GiveLock what) refl (ap (λ (v : CallerView). is_some v.call.call) view ∙ begun) (ap (λ (v : CallerView). may_give_lock (back_to s).state v what) view ∙ give_ok s q)),
+            follow_join s (back_to s) (entry n (acts.NotLive a) ∷ []) (entry n (acts.GiveLock what) ∷ []) (one_follows s (back_to s) n (acts.NotLive a) (before stands o st r id n me.0 es at h s q).whole (begun_here s q) (not_there s q))
+                (one_follows s first n (acts.GiveLock what) refl (ap (λ (v : CallerView). is_some v.call.call) view ∙ begun_here s q) (ap (λ (v : CallerView). may_give_lock (back_to s).state v what) view ∙ give_ok s q)),
             refl,
             all_same o.limits r.lead.counted (after s first (entry n (acts.GiveLock what))) (after s (back_to s) (entry n (acts.GiveLock what))) r.owes (set st.words (lock_at what) 0)
-                (record { lfh = refl; words = refl; active = refl; spans = refl; hints = λ k x y. refl; makers = λ x k. refl }) refl
-                (shown_behind o.limits r.lead.counted (after s (back_to s) (entry n (acts.GiveLock what))) (back_to s) r.owes r.owes st.words (lock_at what) 0 (omega arith) wide
-                (lock_behind o.limits (back_to s) (after s (back_to s) (entry n (acts.GiveLock what))).now r.owes what None has (hints_on s what has))
-                (owed_behind s q what has (mine s q) paid (owed_soundly o.limits r.lead.counted (back_to s) r.owes st.words b.words))
-                b.words),
-            subst (λ (c : List (ℕ × Option T)). AreHome stands o (after s (back_to s) (entry n (acts.GiveLock what))).state (put_back st.homes c)) (sym top) (homes_given stands o (back_to s) st.homes what state has (tells_here s q) b.home),
+                (record { lfh = refl; words = refl; active = refl; spans = refl; hints = λ k x y. refl; makers = λ x k. refl }) refl (given_shown s q),
+            given_home s q,
           )) in (
             x.0,
             gives,

@@ -1,14 +1,14 @@
 -- The laws of the steps with which a caller says that no live block has an address.
-use Rattle.std.proofs.Common.{◌≡◌, ℕ, ◌+◌, ◌%◌, ◌<◌, true, ◌==◌, List, [], ◌∷◌, get_or, Option, refl, sym, ap, ◌∙◌, subst, arith, inl, inr, eq-eqb}
+use Rattle.std.proofs.Common.{◌≡◌, ℕ, ◌+◌, ◌%◌, ◌<◌, true, ◌==◌, List, [], ◌∷◌, get_or, Option, refl, sym, ap, ◌∙◌, subst, arith, eq-eqb}
 use Rattle.std.specs.Prelude.{is_some}
-use Rattle.std.proofs.lemmas.Bool.{and_parts, and_from, or_cases}
+use Rattle.std.proofs.lemmas.Bool.{and_from}
 use mathlib.Core.Option.{none, some}
 use lib.ListN.{get_elem?}
 use Rattle.atomic_table.specs.Table.{rest, State, Me, Act, step, keeps, stepped, carried_after, Valid}
 use Rattle.heap_model.specs.declared.Act.{Act as Deed}
 use Rattle.heap_model.specs.declared.Act.TheVariants as acts
 use Rattle.heap_model.specs.declared.Entry.{Entry}
-use Rattle.heap_model.specs.State.{Setting, is_among, gate_word, hands}
+use Rattle.heap_model.specs.State.{Setting, gate_word, hands}
 use Rattle.heap_model.specs.CallState.{Configuration, CallState, CallerView, caller_view}
 use Rattle.heap_model.specs.Legal.{may, after, may_leave}
 use Rattle.heap_model.specs.History.{configuration_after, configuration_of}
@@ -19,13 +19,13 @@ use Rattle.claim_rule.specs.Entries.{IsSettingOf, entry, is_by}
 use Rattle.claim_rule.specs.Rule.{IsRuled, IsReady, ready_after}
 use Rattle.claim_rule.specs.Steps.{MayGoOut}
 use Rattle.claim_rule.specs.Plays.{Goes, number_of}
-use Rattle.claim_rule.proofs.Counts.{IsCounted, length-without}
+use Rattle.claim_rule.proofs.Counts.{length-without}
 use Rattle.claim_rule.proofs.Lists.{follow_join}
 use Rattle.claim_rule.proofs.Slots.{homes_still, homes_kept}
 use Rattle.claim_rule.proofs.Words.{all_same, all_kept}
 use Rattle.claim_rule.proofs.Behind.{all_gate}
 use Rattle.claim_rule.proofs.Advance.{before, acts, adds_of, setting_in}
-use Rattle.claim_rule.proofs.Gate.{one_by, one_follows, out_same}
+use Rattle.claim_rule.proofs.Gate.{leaver_counted, one_by, one_follows, out_same}
 use Rattle.look_steps.specs.Denials.{MayDeny, denied, denied_left}
 use Rattle.look_steps.specs.Laws.{DenyLaw, DenyGiveLaw, DenyLeaveLaw}
 use Rattle.step_parts.proofs.FrontEnd.{keeps_here, usual}
@@ -66,13 +66,6 @@ module _ {T : Type 0} (stands : T → LayerState) (o : Opening) (slots id n a : 
       )) in
       (x.0, keeps, tt, x.1, record { adds = adds_of me (x.0, me.1) n es deed h.role x.2; slot = refl; owes = x.3 })
 
-  -- who may leave is counted
-  leaver_counted : (m : Configuration) → IsCounted m.state.gate → may_leave (caller_view m n) (hands m.state n) ≡ true → is_among n m.state.gate.counted ≡ true
-  leaver_counted m k w = elim (or_cases (is_among n m.state.gate.turning) _ w) [
-    | inl t ↦ k.turning n t
-    | inr t ↦ (and_parts (is_among n m.state.gate.counted) _ (and_parts (caller_view m n).entered _ (and_parts _ _ t).0).0).0
-  ]
-
   -- with leaving
   pub leaves_denied : (out : (s : Setting) → IsSettingOf me.0.opening me.0.roll s → MayGoOut (ready_after s me.0 es) n) → get_or st.words 1 0 < 18446744073709551616
       → (w : View) × (b : Act (Option T)) × Valid st.homes me.1 b × IsRuled stands o (stepped st 1 ((get_or st.words 1 0 + 18446744073709551615) % 18446744073709551616) id me.1 w b) × denied_left es a (step slots 1 1 0 none) me (get_or st.words 1 0) (w, carried_after me.1 b)
@@ -88,7 +81,7 @@ module _ {T : Type 0} (stands : T → LayerState) (o : Opening) (slots id n a : 
       let p = out_same s n m (ready_after s me.0 es) b.carried.agrees (out s (setting_in stands o st r id n me.0 es at h s q)) in
       let is : x ≡ gate_word m.state.gate = b.words.gate.gate in
       let fits : x < 18446744073709551616 = small in
-      let one = length-without n m.state.gate.counted b.counted.apart (leaver_counted m b.counted p.may) in
+      let one = length-without n m.state.gate.counted b.counted.apart (leaver_counted m n b.counted p.may) in
       let y : (x + 18446744073709551615) % 18446744073709551616 ≡ gate_word (after s first (entry n acts.Leave)).state.gate = omega arith in (
         follow_join s m (entry n deed ∷ []) (entry n acts.Leave ∷ []) (one_follows s m n deed b.whole p.begun (not_there s q))
             (one_follows s first n acts.Leave refl (ap (λ (v : CallerView). is_some v.call.call) view ∙ p.begun) (ap (λ (v : CallerView). may_leave v (hands m.state n)) view ∙ p.may)),

@@ -46,13 +46,18 @@ tag_is l m f x page there has =
 
 ---- A caller has seen a subsegment
 
+-- the parts of a tag are those of its subsegment
+pub tag_parts : (m : Configuration) (page word : ℕ) (h : IsTagged m page word) → (h.span.first ≡ first_of_tag word) × (h.span.bucket ≡ bucket_of_tag word) × (h.span.slot ≡ slot_of_tag word)
+tag_parts m page word h =
+    let tag = h.tag in
+    let high = h.bucket.1 in
+    let few = h.slot in (omega arith, omega arith, omega arith)
+
 -- .. by a tag
 pub seen_by_tag : (m : Configuration) (page word : ℕ) → IsTagged m page word → IsSeen m (first_of_tag word) (bucket_of_tag word) (slot_of_tag word)
 seen_by_tag m page word h =
-    let tag = h.tag in
-    let high = h.bucket.1 in
-    let few = h.slot in
-    record { span = h.span; there = h.there; begins = omega arith; bucket = omega arith; slot = omega arith }
+    let p = tag_parts m page word h in
+    record { span = h.span; there = h.there; begins = p.0; bucket = p.1; slot = p.2 }
 
 -- .. by the area
 pub seen_in_area : (m : Configuration) (x : Span) → IsOneOf x m.state.back.area.spans → x.kind ≡ kinds.Lfh → IsSeen m x.first x.bucket x.slot
