@@ -6,7 +6,7 @@ use Rattle.heap_model.specs.declared.Act.{Act}
 use Rattle.heap_model.specs.declared.Call.{Call}
 use Rattle.heap_model.specs.declared.Layer.{Layer}
 use Rattle.heap_model.specs.declared.Layer.TheVariants as layers
-use Rattle.heap_model.specs.State.{Setting, State, Place, Live, InHand, GateAndLocks, updated, address, has_address, place_at, hand_at, hands, in_hand, all_places, places_of, is_in_hand_of}
+use Rattle.heap_model.specs.State.{Setting, State, Place, InHand, GateAndLocks, updated, address, has_address, place_at, hand_at, hands, in_hand, all_places, places_of, is_in_hand_of}
 use Rattle.heap_model.specs.CallState.{Configuration, CallState, Nothing}
 use Rattle.heap_model.specs.Legal.{may, may_follow, after, call_after, demand_after, meets_demand, is_begin}
 use Rattle.heap_soundness.specs.Sound.{IsOneOf}

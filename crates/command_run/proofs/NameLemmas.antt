@@ -9,7 +9,7 @@ use Rattle.script_text.specs.declared.commands.Target.TheVariants as targets
 use Rattle.script_text.specs.declared.commands.Command.{Command}
 use Rattle.script_text.specs.declared.commands.Command.TheVariants as commands
 use Rattle.script_text.specs.Values as language
-use Rattle.script_text.specs.Values.{Answered, last_assigned, last_of_round, last_of_rounds, value_at}
+use Rattle.script_text.specs.Values.{last_assigned, last_of_round, last_of_rounds}
 use Rattle.command_run.specs.Commands.{unassigned, assigned, values_after, in_threads, in_rounds}
 use Rattle.command_run.specs.Running.{FitThreads, Fit}
 use Rattle.command_run.specs.Named.{answered, answered_threads, answered_rounds, AreSingle, NamesHaveTheirValues}

@@ -1,10 +1,10 @@
 // The commands of a script, run one after another on a heap of one caller.
-ghost use Rattle.std.specs.Prelude.{◌≡◌, ◌<◌, ◌≤◌, [], ◌∷◌, ◌++◌, IfOk, length, map, false, List, ℕ};
+ghost use Rattle.std.specs.Prelude.{◌≡◌, ◌<◌, [], ◌∷◌, ◌++◌, IfOk, length, false, List, ℕ};
 ghost use Rattle.heap_model.specs.CallState.{Configuration};
 ghost use Rattle.heap_model.specs.declared.Call.TheVariants as calls;
 ghost use Rattle.heap_model.specs.declared.Reply.{Reply};
-ghost use Rattle.heap_now.specs.Standing.{Stands, IsBuilt};
-ghost use Rattle.script_text.specs.Scripts.{commands_of, round_at, command_of};
+ghost use Rattle.heap_now.specs.Standing.{Stands};
+ghost use Rattle.script_text.specs.Scripts.{commands_of, round_at};
 ghost use Rattle.command_run.specs.Values.{value_at};
 ghost use Rattle.command_run.specs.Commands.{unassigned, address_of, call_of, assigned, assigned_placed, assigned_moved, in_threads, in_rounds, round_commands, thread_commands};
 ghost use Rattle.command_run.specs.Running.{IsServed, AreServed, Runs, RoundRuns, Fit};

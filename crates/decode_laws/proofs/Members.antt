@@ -1,7 +1,7 @@
 -- On the elements of lists that are put together, mapped and sorted.
-use Rattle.std.proofs.Common.{◌≡◌, Bool, List, [], ◌∷◌, ◌++◌, map, Option, Some, None, refl, sym, ap, ◌∙◌, subst, ltb, inl, inr, ◌⊎◌}
-use Rattle.std.specs.Prelude.{filter, filter_map, flat_map}
-use Rattle.std.specs.List.{AllByRecursion, cons_option}
+use Rattle.std.proofs.Common.{◌≡◌, List, [], ◌∷◌, ◌++◌, map, Option, Some, None, refl, sym, ap, ◌∙◌, subst, ltb, inl, inr, ◌⊎◌}
+use Rattle.std.specs.Prelude.{filter_map, flat_map}
+use Rattle.std.specs.List.{cons_option}
 use Rattle.std.proofs.lemmas.Bool.{cases_Bool}
 use Rattle.heap_model.specs.State.{Place, insert_place, by_address}
 use Rattle.heap_soundness.specs.Sound.{IsOneOf}

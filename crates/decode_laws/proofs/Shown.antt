@@ -1,9 +1,9 @@
 -- The blocks that an image tells of are the live ones.
-use Rattle.std.proofs.Common.{◌≡◌, ℕ, ◌+◌, ◌-◌, ◌*◌, ◌/◌, ◌%◌, ◌<◌, ◌≤◌, Bool, true, false, ◌||◌, List, [], ◌∷◌, ◌++◌, map, leb, ltb, Option, Some, None, refl, sym, ap, ◌∙◌, subst, arith, inl, inr}
+use Rattle.std.proofs.Common.{◌≡◌, ℕ, ◌+◌, ◌-◌, ◌*◌, ◌/◌, ◌%◌, ◌<◌, ◌≤◌, Bool, true, List, [], ◌∷◌, ◌++◌, map, leb, ltb, Option, Some, None, refl, sym, ap, ◌∙◌, subst, arith, inl, inr}
 use Rattle.std.specs.Prelude.{filter, option_map, option_and_then, unwrap_or, length}
 use Rattle.std.specs.List.{AllByRecursion, find, list_all}
 use Rattle.std.specs.Option.{option_map_or}
-use Rattle.std.proofs.lemmas.Bool.{cases_lt, eqb-true, and_from, and_parts, or_cases, le-leb, leb-true, false≢true}
+use Rattle.std.proofs.lemmas.Bool.{cases_lt, eqb-true, and_from, and_parts, le-leb, leb-true}
 use Rattle.heap_model.specs.declared.Limits.{Limits}
 use Rattle.heap_model.specs.declared.Block.{Block}
 use Rattle.heap_model.specs.declared.Kind.{Kind}
@@ -14,7 +14,7 @@ use Rattle.heap_model.specs.declared.Run.{Run}
 use Rattle.heap_model.specs.State as state
 use Rattle.heap_model.specs.Buckets.{block_size}
 use Rattle.heap_model.specs.Geometry.{pages_of}
-use Rattle.heap_model.specs.State.{State, Setting, Span, Place, Status, Live, InHand, Area, address, room, live_size, is_live, has_address, is_layer, places_of, all_places, by_address, live}
+use Rattle.heap_model.specs.State.{State, Setting, Span, Place, Status, Live, InHand, Area, address, room, live_size, is_live, has_address, all_places, by_address, live}
 use Rattle.heap_model.specs.Ranges.{is_of_kind, vs_spans}
 use Rattle.heap_model.specs.Legal.{has_place, lies_in}
 use Rattle.page_ranges.specs.Words.{runs_of}
@@ -37,7 +37,7 @@ use Rattle.large_blocks.specs.Table as table
 use Rattle.heap_soundness.proofs.Spans.{above, same_first}
 use Rattle.decode_laws.specs.Told.{AreLive, IsShowable}
 use Rattle.decode_laws.proofs.Members.{in_parts, in_left, in_right, in_mapped, from_mapped, in_flat, from_flat, in_chosen, in_sorted, from_sorted}
-use Rattle.decode_laws.proofs.Known.{IsKnownState, address_by, room_by, of_layer, layer_at, in_layer, one_place}
+use Rattle.decode_laws.proofs.Known.{IsKnownState, address_by, room_by, of_layer, layer_at, one_place}
 use Rattle.decode_laws.proofs.Rising.{IsBelow, ByAddress, LiesIn, in_order, joined_order, flat_below, flat_order, same_blocks}
 use Rattle.decode_laws.proofs.Chunks.{AreKnown}
 use Rattle.decode_laws.proofs.Walk.{vs_block, IsBlockIn, span_found, span_order, span_has}

@@ -1,6 +1,5 @@
 // Worked histories, each up to its end or its first entry that may not come.
 ghost use Rattle.std.specs.Prelude.{◌≡◌, ◌+◌, true, false, nat_lt, not, [], ◌∷◌, Some, None, length};
-ghost use Rattle.heap_model.specs.declared.Entry.{Entry};
 ghost use Rattle.std.specs.List.{list_any};
 ghost use Rattle.heap_model.specs.History.{is_legal, configuration_of, refused_from, first_configuration};
 ghost use Rattle.heap_model.specs.State.{live};
@@ -10,7 +9,7 @@ ghost use Rattle.heap_model.specs.declared.Call.TheVariants as calls;
 ghost use Rattle.heap_model.specs.declared.Reply.TheVariants as replies;
 ghost use Rattle.heap_laws.specs.Rows.{back_end, back_span, four_taken, three_left};
 ghost use Rattle.heap_model.specs.Backend.{back_place};
-ghost use Rattle.heap_laws.specs.Worked.{one, asks_back, allocates_back, wrong_size, wrong_page, frees_back, allocates_vs, three_vs, seventeen_vs, searches_lfh, with_search, drawn, claims_lowest, places_late, first_call, resizes_back, compacts, decommits_wrong, decommits_twice, two, meets_others, meets_owner, fills_large, resizes_vs, off_limits, makes_lfh, spans_too_long};
+ghost use Rattle.heap_laws.specs.Worked.{one, asks_back, allocates_back, wrong_size, wrong_page, frees_back, allocates_vs, three_vs, seventeen_vs, with_search, drawn, claims_lowest, places_late, first_call, resizes_back, compacts, decommits_wrong, decommits_twice, two, meets_others, meets_owner, fills_large, resizes_vs, off_limits, makes_lfh, spans_too_long};
 
 pub fn back_is_legal()
     ensures legal { is_legal one allocates_back ≡ true }

@@ -7,7 +7,7 @@ use Rattle.heap_model.specs.declared.Entry.{Entry}
 use Rattle.heap_model.specs.declared.Layer.{Layer}
 use Rattle.heap_model.specs.declared.Layer.TheVariants as layers
 use Rattle.heap_model.specs.declared.What.TheVariants as whats
-use Rattle.heap_model.specs.State.{State, BackPart, VsPart, Setting, Place, is_among, is_caller, is_entered, holds, places_of, is_layer}
+use Rattle.heap_model.specs.State.{State, BackPart, VsPart, Setting, Place, places_of}
 use Rattle.heap_model.specs.CallState.{Configuration, caller_view, CallerView}
 use Rattle.heap_model.specs.Legal.{may_follow, after, demand_after, may_touch, has_live, may_not_be_live}
 use Rattle.heap_model.specs.History.{configuration_after, may_all_follow, own}

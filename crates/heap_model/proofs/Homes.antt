@@ -7,7 +7,7 @@ use Rattle.heap_model.specs.declared.Act.TheVariants as acts
 use Rattle.heap_model.specs.declared.Layer.{Layer}
 use Rattle.heap_model.specs.declared.Layer.TheVariants as layers
 use Rattle.heap_model.specs.declared.What.TheVariants as whats
-use Rattle.heap_model.specs.State.{State, Place, Live, InHand, is_layer, places_of, in_hand, hands, guarded, exclusive_places, all_places, has_address, hand_at, place_at, is_live, is_in_hand_of, is_live_at, is_hand_at, holds, change_found, remove_found, add_place}
+use Rattle.heap_model.specs.State.{State, Place, Live, InHand, is_layer, places_of, in_hand, hands, guarded, exclusive_places, all_places, has_address, hand_at, place_at, is_live, is_in_hand_of, is_live_at, is_hand_at, holds, change_found, remove_found}
 use Rattle.heap_model.specs.CallState.{CallState}
 use Rattle.heap_model.specs.Legal.{state_after, on, layer_of, with_status, resize_place}
 use Rattle.heap_model.specs.Agreement.{HasHomes}

@@ -1,5 +1,5 @@
 -- The first field of a line, and the others.
-use Rattle.std.proofs.Common.{◌≡◌, ℕ, suc, ◌+◌, Bool, true, false, not, cond, eqb, List, [], ◌∷◌, length, take, drop, get_or, refl, ap, sym, ◌∙◌, arith, inl, inr, one-add, add-one, zero-add}
+use Rattle.std.proofs.Common.{◌≡◌, ℕ, Bool, true, false, not, cond, List, [], ◌∷◌, drop, get_or, refl, ap, ◌∙◌, inl, inr, one-add, add-one}
 use Rattle.std.specs.Prelude.{filter}
 use Rattle.std.specs.List.{list_all, before_first, after_first, position_or_len, slice_split, onto_first}
 use Rattle.std.proofs.lemmas.Bool.{cases_Bool}

@@ -1,12 +1,12 @@
 -- The value of digits, one after another.
 use Rattle.std.proofs.Common.{◌≡◌, ℕ, ◌+◌, ◌*◌, ◌-◌, ◌^◌, ◌<◌, ◌≤◌, Bool, true, false, ◌&&◌, cond, ltb, leb, eqb, List, [], ◌∷◌, length, Option, Some, None, Result, Ok, Err, refl, ap, sym, ◌∙◌, arith, inl, inr}
-use Rattle.std.specs.Prelude.{nat_lt, if◌then◌else◌, option_and_then}
+use Rattle.std.specs.Prelude.{nat_lt, if◌then◌else◌}
 use Rattle.std.specs.List.{list_all}
 use Rattle.std.proofs.lemmas.Bool.{cases_Bool, lt-ltb, le-ltb, le-leb, ltb-true, ltb-false}
 use Rattle.script_text.specs.Words.{is_digit, value_behind, value_of, number_field}
 use Rattle.script_text.specs.declared.faults.Cause.{Cause}
 use Rattle.script_text.specs.declared.faults.Cause.TheVariants.{BadNumber}
-use Rattle.script_text.specs.Digits.{number_more, number_from}
+use Rattle.script_text.specs.Digits.{number_from}
 
 rises : (n : ℕ) (cs : List ℕ) → n ≤ value_behind n cs
 rises n [] = omega arith

@@ -1,11 +1,10 @@
 -- One line more behind counted lines.
-use Rattle.std.proofs.Common.{◌≡◌, ℕ, ◌+◌, ◌-◌, ◌<◌, Bool, true, false, cond, max, eqb, List, [], ◌∷◌, ◌++◌, length, Option, Some, None, refl, ap, sym, ◌∙◌, subst, arith, inl, inr}
+use Rattle.std.proofs.Common.{◌≡◌, ℕ, ◌+◌, ◌-◌, Bool, true, false, cond, max, eqb, List, [], ◌∷◌, ◌++◌, Option, Some, None, refl, sym, arith, inl, inr}
 use Rattle.std.specs.Prelude.{count_by}
-use Rattle.std.proofs.lemmas.Bool.{cases_Bool, eqb-false, eqb-true, eq-eqb}
-use Rattle.script_text.specs.Pieces.{cut_before, behind_last}
-use Rattle.script_text.specs.Order.{says_round, says_thread, says_lock, says_unlock, says_walk, is_next, is_round, is_thread, locks, unlocks, depth, threads, walks, cause_at, cause_behind, AreCounted}
+use Rattle.std.proofs.lemmas.Bool.{cases_Bool, eqb-false}
+use Rattle.script_text.specs.Pieces.{behind_last}
+use Rattle.script_text.specs.Order.{says_lock, says_unlock, says_walk, is_next, is_round, is_thread, locks, unlocks, depth, threads, walks, cause_at, cause_behind, AreCounted}
 use Rattle.script_text.specs.Counted.{counted}
-use Rattle.script_text.specs.declared.faults.Cause.{Cause}
 use Rattle.script_text.specs.declared.faults.Cause.TheVariants as causes
 use Rattle.script_text.specs.declared.commands.Command.TheVariants as commands
 use Rattle.script_text.specs.declared.commands.Line.{Line}

@@ -1,7 +1,7 @@
 -- One element more behind a list that is cut at marks.
-use Rattle.std.proofs.Common.{◌≡◌, ℕ, suc, ◌+◌, ◌<◌, ◌≤◌, ltb, Some, None, Bool, true, false, ◌||◌, cond, max, List, [], ◌∷◌, ◌++◌, length, take, drop, refl, ap, sym, ◌∙◌, arith, inl, inr, one-add, add-one}
+use Rattle.std.proofs.Common.{◌≡◌, ℕ, suc, ◌+◌, ◌<◌, ◌≤◌, ltb, None, Bool, true, false, ◌||◌, cond, max, List, [], ◌∷◌, ◌++◌, length, take, drop, refl, ap, arith, inl, inr, one-add, add-one}
 use Rattle.std.specs.Prelude.{count_by}
-use Rattle.std.specs.List.{list_any, before_first, position, position_or_len}
+use Rattle.std.specs.List.{list_any, position, position_or_len}
 use Rattle.std.proofs.lemmas.Bool.{cases_Bool, ltb-false}
 use Rattle.std.proofs.lemmas.List.Folds.{list_any-append}
 use Rattle.std.proofs.lemmas.Grind.{fold-append}

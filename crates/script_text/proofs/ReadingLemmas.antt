@@ -1,14 +1,13 @@
 -- One line of a text more.
-use Rattle.std.proofs.Common.{◌≡◌, ℕ, zero, suc, ◌+◌, ◌<◌, Bool, true, false, eqb, List, [], ◌∷◌, ◌++◌, length, take, drop, Option, Some, None, Result, Ok, Err, refl, ap, sym, ◌∙◌, subst, arith, inl, inr, one-add, add-one, append_assoc, append-nil}
+use Rattle.std.proofs.Common.{◌≡◌, ℕ, zero, suc, ◌+◌, ◌<◌, Bool, true, false, eqb, List, [], ◌∷◌, ◌++◌, length, take, drop, Option, Result, Ok, Err, refl, ap, sym, ◌∙◌, subst, arith, inl, inr, one-add, add-one, append_assoc, append-nil}
 use Rattle.std.specs.List.{before_first, after_first, position_or_len, onto_first}
 use Rattle.std.proofs.lemmas.Bool.{cases_Bool, ne_eqb}
 use Rattle.std.proofs.lemmas.List.{length-drop, take-append-drop}
 use Rattle.script_text.specs.Lines.{lines_of, fields_of}
 use Rattle.script_text.specs.Names.{name_on, names_in}
-use Rattle.script_text.specs.Reading.{said_on, noted, ended, and_read, lines_from, IsRefusedAs, IsUnsaid}
+use Rattle.script_text.specs.Reading.{said_on, noted, ended, lines_from, IsRefusedAs, IsUnsaid}
 use Rattle.script_text.specs.declared.commands.Line.{Line}
 use Rattle.script_text.specs.declared.commands.NumberedLine.{NumberedLine}
-use Rattle.script_text.specs.declared.faults.Cause.{Cause}
 use Rattle.script_text.specs.declared.faults.ScriptFault.{ScriptFault}
 use Rattle.script_text.specs.declared.faults.ScriptNo.{ScriptNo}
 use Rattle.script_text.specs.declared.faults.ScriptNo.TheVariants as refusals

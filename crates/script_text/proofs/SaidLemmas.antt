@@ -6,14 +6,14 @@ use Rattle.std.proofs.lemmas.Bool.{ne_eqb}
 use Rattle.script_text.specs.Lines.{has_bytes, field, fields_of, is_blank}
 use Rattle.script_text.specs.Words.{arguments, word_of}
 use Rattle.script_text.specs.Filled.{filled}
-use Rattle.script_text.specs.Names.{is_among, before_name, different, number_of_name, number_on, name_by, name_on}
+use Rattle.script_text.specs.Names.{is_among, different, number_of_name, number_on, name_by, name_on}
 use Rattle.script_text.specs.Reading.{said, said_with, said_by, said_on, is_skipped}
 use Rattle.script_text.specs.declared.faults.Cause.{Cause}
 use Rattle.script_text.specs.declared.commands.Line.{Line}
 use Rattle.script_text.specs.declared.words.Word.{Word}
 use Rattle.script_text.specs.declared.words.Word.TheVariants as words
 use Rattle.script_text.proofs.FieldLemmas.{all_have_bytes}
-use Rattle.script_text.proofs.NameLemmas.{before_known, before_new, bytes_same}
+use Rattle.script_text.proofs.NameLemmas.{before_known, bytes_same}
 
 few : (w : Word) → arguments w ≤ 3
 few words.Round = omega arith

@@ -1,15 +1,15 @@
 -- Commands, one after another, and what was seen before.
-use Rattle.std.proofs.Common.{◌≡◌, ℕ, zero, suc, ◌+◌, ◌<◌, ◌≤◌, Bool, true, false, ◌||◌, ◌&&◌, cond, ltb, leb, min, List, [], ◌∷◌, ◌++◌, length, drop, Option, Some, None, refl, ap, sym, ◌∙◌, arith, inl, inr, get_or, drop-cons, add-one}
-use Rattle.std.specs.Prelude.{count_by, nat_le, nat_lt}
+use Rattle.std.proofs.Common.{◌≡◌, ℕ, ◌+◌, ◌<◌, Bool, true, false, ◌||◌, ◌&&◌, cond, ltb, leb, min, List, [], ◌∷◌, ◌++◌, length, drop, Option, Some, None, refl, ap, sym, ◌∙◌, arith, inl, inr, get_or, drop-cons, add-one}
+use Rattle.std.specs.Prelude.{count_by}
 use Rattle.std.specs.Option.{option_or}
 use Rattle.std.specs.List.{list_any}
-use Rattle.std.proofs.lemmas.Bool.{cases_Bool, ltb-true, ltb-false, le-leb, lt-leb, lt-ltb, le-ltb}
+use Rattle.std.proofs.lemmas.Bool.{cases_Bool, ltb-true, ltb-false, le-leb, lt-leb}
 use Rattle.std.proofs.lemmas.List.Folds.{list_any-append}
 use Rattle.script_text.specs.declared.commands.Command.{Command}
 use Rattle.script_text.specs.declared.commands.Command.TheVariants as commands
 use Rattle.script_text.specs.declared.commands.CommandLine.{CommandLine}
 use Rattle.script_text.specs.declared.unbuilt.Seen.{Seen}
-use Rattle.script_text.specs.Unbuilt.{is_free, is_small, is_built, alloc_built, unbuilt_behind, of_threads, of_rounds}
+use Rattle.script_text.specs.Unbuilt.{is_free, is_small, is_built, unbuilt_behind, of_threads, of_rounds}
 use Rattle.script_text.specs.ThreadLines.{ThreadLines}
 use Rattle.script_text.specs.Seen.{seen_next, seen_after, unbuilt_from}
 use Rattle.script_text.proofs.PieceLemmas.{count_push, or_false}

@@ -1,5 +1,5 @@
 -- How many of five fields there are.
-use Rattle.std.specs.Prelude.{◌≡◌, ℕ, List, [], ◌∷◌, Option, Some, None}
+use Rattle.std.specs.Prelude.{ℕ, List, [], ◌∷◌}
 
 abbrev pub filled : (a b c d e : List ℕ) → ℕ
 filled [] b c d e = 0

@@ -1,5 +1,5 @@
 -- What may stand behind what: the causes that depend on the lines before.
-use Rattle.std.specs.Prelude.{◌≡◌, ℕ, ◌+◌, ◌-◌, ◌==◌, Bool, true, false, ◌&&◌, not, nat_le, max, List, length, count_by, Option, Some, None, if◌then◌else◌}
+use Rattle.std.specs.Prelude.{◌≡◌, ℕ, ◌+◌, ◌-◌, ◌==◌, Bool, true, false, ◌&&◌, not, nat_le, List, length, count_by, Option, Some, None, if◌then◌else◌}
 use Rattle.script_text.specs.Pieces.{cut_before, behind_last}
 use Rattle.script_text.specs.declared.faults.Cause.{Cause}
 use Rattle.script_text.specs.declared.faults.Cause.TheVariants as causes

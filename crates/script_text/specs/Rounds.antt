@@ -1,5 +1,5 @@
 -- Lines as rounds, threads and commands.
-use Rattle.std.specs.Prelude.{ℕ, Bool, List, [], ◌∷◌, map, Option, Some, None, if◌then◌else◌}
+use Rattle.std.specs.Prelude.{ℕ, List, [], ◌∷◌, map, Option, Some, None, if◌then◌else◌}
 use Rattle.std.specs.List.{filter_map}
 use Rattle.script_text.specs.Pieces.{cut_before}
 use Rattle.script_text.specs.Order.{is_round, is_thread}
@@ -7,7 +7,7 @@ use Rattle.script_text.specs.declared.commands.Line.{Line}
 use Rattle.script_text.specs.declared.commands.Line.TheVariants as lines
 use Rattle.script_text.specs.declared.commands.NumberedLine.{NumberedLine}
 use Rattle.script_text.specs.declared.commands.CommandLine.{CommandLine}
-use Rattle.script_text.specs.ThreadLines.{ThreadLines, ScriptLines}
+use Rattle.script_text.specs.ThreadLines.{ThreadLines}
 
 abbrev pub command_on : ℕ → Line → Option CommandLine
 command_on number (lines.Runs command) = Some (record { line = number; command = command })

@@ -1,5 +1,5 @@
 -- What a script tells.
-use Rattle.std.specs.Prelude.{ℕ, max, List, [], ◌∷◌, length, map, fold, slice_get, slice_index_or, Option, Some, None}
+use Rattle.std.specs.Prelude.{ℕ, max, List, [], ◌∷◌, length, map, fold, slice_get, slice_index_or, Option, None}
 use Rattle.std.specs.Option.{option_map, option_or}
 use Rattle.script_text.specs.declared.commands.Command.{Command}
 use Rattle.script_text.specs.declared.commands.CommandLine.{CommandLine}

@@ -1,5 +1,5 @@
 -- The values of names: what each stands for at each command of a script.
-use Rattle.std.specs.Prelude.{ℕ, ◌==◌, Bool, List, [], ◌∷◌, Option, Some, None, if◌then◌else◌}
+use Rattle.std.specs.Prelude.{ℕ, ◌==◌, List, [], ◌∷◌, Option, Some, None, if◌then◌else◌}
 use Rattle.std.specs.Option.{unwrap_or, option_or}
 use Rattle.heap_model.specs.declared.Reply.{Reply}
 use Rattle.heap_model.specs.declared.Reply.TheVariants as replies

@@ -3,7 +3,6 @@ use Rattle.std.specs.Prelude.{ℕ, ◌+◌, ◌*◌, ◌-◌, ◌^◌, ◌==◌,
 use Rattle.std.specs.List.{list_all}
 use Rattle.std.specs.Option.{option_or}
 use Rattle.std.specs.Str.{bytes_eq}
-use Rattle.script_text.specs.Lines.{field}
 use Rattle.script_text.specs.declared.faults.Cause.{Cause}
 use Rattle.script_text.specs.declared.faults.Cause.TheVariants as causes
 use Rattle.script_text.specs.declared.commands.Target.{Target}

@@ -1,5 +1,5 @@
 // What is counted of the lines before a line.
-ghost use Rattle.std.specs.Prelude.{◌≡◌, ℕ, ◌+◌, ◌^◌, ◌<◌};
+ghost use Rattle.std.specs.Prelude.{◌≡◌, ◌+◌, ◌^◌, ◌<◌};
 ghost use Rattle.script_text.specs.Order.{cause_at};
 ghost use Rattle.script_text.specs.Counted.{counted, IsWithin};
 

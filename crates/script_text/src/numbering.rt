@@ -1,7 +1,7 @@
 // The numbers of names.
 ghost use Rattle.std.specs.Prelude.{◌≡◌, ℕ, ◌+◌, ◌^◌, ◌<◌, ◌≤◌, List, [], ◌∷◌, ◌++◌, IfOk};
 ghost use Rattle.std.specs.BTreeMap.{btree_map_len};
-ghost use Rattle.script_text.specs.Names.{AreNumbered, number_of_name, different};
+ghost use Rattle.script_text.specs.Names.{AreNumbered, number_of_name};
 
 use std::alloc::{AllocError, Global};
 use std::collections::BTreeMap;

@@ -1,5 +1,5 @@
 // Lines as rounds, threads and commands.
-ghost use Rattle.std.specs.Prelude.{◌≡◌, ℕ, ◌+◌, ◌<◌, ◌≤◌, List, [], ◌∷◌, ◌++◌, length, vec_len, map, drop, IfOk};
+ghost use Rattle.std.specs.Prelude.{◌≡◌, ◌+◌, ◌<◌, ◌≤◌, List, [], ◌∷◌, length, map, IfOk};
 ghost use Rattle.std.specs.List.{position, position_or_len, filter_map};
 ghost use Rattle.script_text.specs.Pieces.{cut_before};
 ghost use Rattle.script_text.specs.Order.{is_round, is_thread};

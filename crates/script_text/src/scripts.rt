@@ -1,7 +1,6 @@
 // A script.
-ghost use Rattle.std.specs.Prelude.{◌≡◌, ◌<◌, ◌≤◌, length, Ok, Err, Some, None, IfOk, IfErr, MatchResult, List};
+ghost use Rattle.std.specs.Prelude.{◌≡◌, ◌<◌, ◌≤◌, length, Ok, Err, Some, None, IfOk, IfErr};
 ghost use Rattle.script_text.specs.Reading.{reading_of, IsRefusedAs};
-ghost use Rattle.script_text.specs.ThreadLines.{ThreadLines};
 ghost use Rattle.script_text.specs.Scripts.{round_at, thread_at, command_at, second_thread, first_second, most_threads};
 ghost use Rattle.script_text.specs.Unbuilt.{first_unbuilt};
 

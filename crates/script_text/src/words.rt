@@ -1,7 +1,7 @@
 // Numbers, names, targets and words, and what a line of fields says.
-ghost use Rattle.std.specs.Prelude.{◌≡◌, ℕ, List, [], ◌&&◌, nat_lt, IfSome, IfOk};
+ghost use Rattle.std.specs.Prelude.{◌≡◌, [], ◌&&◌};
 ghost use Rattle.std.specs.List.{list_all};
-ghost use Rattle.script_text.specs.Words.{is_digit, is_letter, value_of, is_number, suits_name, begins_name, is_name, number_field, name_field, target_field, and_then, runs, arguments, bare_word, block_word, word_of, line_of};
+ghost use Rattle.script_text.specs.Words.{suits_name, begins_name, is_name, number_field, name_field, target_field, and_then, runs, arguments, bare_word, block_word, word_of, line_of};
 ghost use Rattle.std.specs.Str.{bytes_eq};
 ghost use Rattle.script_text.specs.declared.commands.Command.TheVariants as commands;
 ghost use Rattle.script_text.specs.Digits.{number_from, number_more};

@@ -1,7 +1,5 @@
-use Rattle.std.proofs.Common.{◌≡◌, ◌∙◌, List, ℕ, rules}
-use Rattle.std.specs.List.{before_first, after_first}
-use Rattle.script_text.specs.Lines.{is_blank, fields_of, field}
-use Rattle.script_text.proofs.FieldLemmas.{first_piece, start}
+use Rattle.script_text.specs.Lines.{is_blank}
+use Rattle.script_text.proofs.FieldLemmas.{first_piece}
 use Rattle.script_text.proofs.lines.next_field.Goals as goal
 
 pub returns-clause-first : goal.returns-clause-first

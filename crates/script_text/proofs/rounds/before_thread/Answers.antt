@@ -1,4 +1,4 @@
-use Rattle.std.proofs.Common.{◌≡◌, ◌∙◌, sym, List, ℕ}
+use Rattle.std.proofs.Common.{◌∙◌, sym}
 use Rattle.script_text.specs.Order.{is_thread}
 use Rattle.script_text.proofs.PieceLemmas.{no_place}
 use Rattle.script_text.proofs.rounds.before_thread.Goals as goal

@@ -1,4 +1,3 @@
-use Rattle.std.proofs.Common.{◌≡◌, ◌∙◌, sym, List, ℕ}
 use Rattle.script_text.specs.Order.{is_thread}
 use Rattle.script_text.proofs.PieceLemmas.{cut_at}
 use Rattle.script_text.proofs.rounds.cut_thread.Goals as goal

@@ -1,4 +1,4 @@
-use Rattle.std.proofs.Common.{◌≡◌, ◌∙◌, sym, List, ℕ}
+use Rattle.std.proofs.Common.{◌∙◌, sym}
 use Rattle.script_text.proofs.SaidLemmas.{number_stays, if_ok_more}
 use Rattle.script_text.proofs.saying.number_in.Goals as goal
 

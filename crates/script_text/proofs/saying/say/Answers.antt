@@ -1,4 +1,4 @@
-use Rattle.std.proofs.Common.{◌≡◌, ◌∙◌, sym, List, ℕ, refl}
+use Rattle.std.proofs.Common.{◌∙◌, sym, refl}
 use Rattle.script_text.proofs.SaidLemmas.{say_is}
 use Rattle.script_text.proofs.saying.say.Goals as goal
 

@@ -1,8 +1,7 @@
-use Rattle.std.proofs.Common.{◌≡◌, ◌∙◌, sym, ap, refl, List, ℕ, [], ◌+◌, ◌++◌, drop, Some, None}
+use Rattle.std.proofs.Common.{◌≡◌, ◌∙◌, sym, ap, List, ◌+◌, ◌++◌, drop, Some, None}
 use Rattle.script_text.specs.declared.commands.CommandLine.{CommandLine}
 use Rattle.script_text.specs.ThreadLines.{ThreadLines}
-use Rattle.script_text.specs.Seen.{unbuilt_from}
-use Rattle.script_text.specs.Unbuilt.{of_threads, of_rounds}
+use Rattle.script_text.specs.Unbuilt.{of_threads}
 use Rattle.script_text.proofs.UnbuiltLemmas.{none_step, some_step, seen_step, threads_at}
 use Rattle.script_text.proofs.unbuilt.in_threads.Goals as goal
 

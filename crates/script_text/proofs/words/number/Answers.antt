@@ -1,4 +1,4 @@
-use Rattle.std.proofs.Common.{◌≡◌, ◌∙◌, sym}
+use Rattle.std.proofs.Common.{◌∙◌, sym}
 use Rattle.script_text.proofs.NumberLemmas.{number_found, number_missing, not_empty}
 use Rattle.script_text.proofs.words.number.Goals as goal
 

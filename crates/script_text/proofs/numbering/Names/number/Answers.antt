@@ -1,5 +1,4 @@
-use Rattle.std.proofs.Common.{◌≡◌, ◌∙◌, sym, ap, List, ℕ, Option, Some, None, ◌+◌, btree_map_len}
-use Rattle.std.specs.Option.{option_copied}
+use Rattle.std.proofs.Common.{◌≡◌, ◌∙◌, sym, Some, None, ◌+◌, btree_map_len}
 use Rattle.script_text.proofs.NameLemmas.{known, fresh, at}
 use Rattle.script_text.proofs.numbering.Names.number.Goals as goal
 

@@ -1,5 +1,4 @@
-use Rattle.std.proofs.Common.{◌≡◌, ◌∙◌, sym, List, ℕ}
-use Rattle.script_text.specs.Order.{AreCounted}
+use Rattle.std.proofs.Common.{◌∙◌, sym}
 use Rattle.script_text.proofs.OrderLemmas.{counted_push}
 use Rattle.script_text.proofs.reading.Taken.place.Goals as goal
 
