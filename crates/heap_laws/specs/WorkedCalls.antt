@@ -6,6 +6,8 @@ use Rattle.heap_model.specs.declared.Act.{Act}
 use Rattle.heap_model.specs.declared.Act.TheVariants as acts
 use Rattle.heap_model.specs.declared.Entry.{Entry}
 use Rattle.heap_model.specs.declared.Flags.{Flags}
+use Rattle.heap_model.specs.declared.Reply.{Reply}
+use Rattle.heap_model.specs.declared.Reply.TheVariants as replies
 use Rattle.heap_model.specs.declared.Kind.TheVariants as kinds
 use Rattle.heap_model.specs.declared.Layer.TheVariants as layers
 use Rattle.heap_model.specs.declared.What.TheVariants as whats
@@ -209,3 +211,16 @@ compacts_front = acts.Lock ∷ acts.TakeLock whats.Back ∷ acts.Unspan 18 ∷ a
 -- a block is left in the span
 abbrev pub compacts_used : List Act
 compacts_used = acts.Lock ∷ acts.TakeLock whats.Back ∷ acts.Unspan 18 ∷ []
+
+---- What is asked, one after another
+
+-- the heap lock is taken twice, the blocks are walked, and it is given back three times, once too often: only the first and the last but one take a step
+abbrev pub asked_under_lock : List Call
+asked_under_lock = calls.Lock ∷ calls.Lock ∷ calls.WalkNext 0 ∷ calls.Unlock ∷ calls.Unlock ∷ calls.Unlock ∷ calls.WalkNext 0 ∷ []
+
+abbrev pub answered_under_lock : List Reply
+answered_under_lock =
+    replies.Done ∷ replies.Done ∷ replies.Seen (record { addr = 8256; size = 24; layer = layers.Vs }) ∷ replies.Walked 1 ∷ replies.Done ∷ replies.Done ∷ replies.NotOwner ∷ replies.NotLocked ∷ []
+
+abbrev pub steps_under_lock : List Act
+steps_under_lock = acts.Begin calls.Lock ∷ acts.Lock ∷ acts.Begin (calls.WalkNext 0) ∷ acts.Begin (calls.WalkNext 8257) ∷ acts.Begin calls.Unlock ∷ acts.Unlock ∷ []
