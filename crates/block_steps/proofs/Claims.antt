@@ -1,6 +1,6 @@
 -- The law of a claim: one fetch_or places the block that the search has picked, or finds that another has it.
-use Rattle.std.proofs.Common.{◌≡◌, ℕ, ◌+◌, ◌*◌, ◌/◌, ◌%◌, ◌<◌, Bool, true, false, List, [], ◌∷◌, ◌++◌, get_or, set, bit_or, refl, sym, ap, ◌∙◌, subst, Option, Some, None, inl, inr}
-use Rattle.std.proofs.lemmas.Bool.{both_ways, cases_Bool, eqb-true, false≢true}
+use Rattle.std.proofs.Common.{◌≡◌, ℕ, ◌+◌, ◌*◌, ◌/◌, ◌%◌, ◌<◌, Bool, true, false, List, [], ◌∷◌, ◌++◌, get_or, set, bit_or, refl, sym, ap, ◌∙◌, subst, Option, Some, inl, inr}
+use Rattle.std.proofs.lemmas.Bool.{both_ways, cases_Bool}
 use mathlib.Core.Option.{none, some}
 use lib.ListN.{get_elem?}
 use Rattle.atomic_table.specs.Table.{State, Me, Act, step, keeps, stepped, carried_after, Valid}
@@ -11,7 +11,7 @@ use Rattle.heap_model.specs.declared.Layer.TheVariants as layers
 use Rattle.heap_model.specs.declared.What.TheVariants as whats
 use Rattle.heap_model.specs.Bits.{starts_at, has_bit}
 use Rattle.heap_model.specs.Buckets.{block_size, block_address}
-use Rattle.heap_model.specs.State.{Setting, GateAndLocks, is_caller}
+use Rattle.heap_model.specs.State.{Setting, GateAndLocks}
 use Rattle.heap_model.specs.CallState.{Configuration}
 use Rattle.heap_model.specs.Legal.{after}
 use Rattle.heap_model.specs.History.{configuration_after, configuration_of}
@@ -38,6 +38,7 @@ use Rattle.block_steps.specs.Laws.{ClaimLaw}
 use Rattle.step_parts.proofs.FrontEnd.{front_here}
 use Rattle.step_parts.proofs.Stays.{seen_still}
 use Rattle.step_parts.proofs.Placed.{claim_same, under_same, placed, lost, bit_is}
+use Rattle.claim_rule.proofs.Ready.{holder_is_it}
 
 module _ {T : Type 0} (stands : T → LayerState) (o : Opening) (slots id n head b t i : ℕ) (back : Bool) (hint : ℕ) (me : Me (Option T) View) (es : List Entry) (h : IsReady n me.0 es) (ft : t < 16)
     (ok : (s : Setting) → IsSettingOf me.0.opening me.0.roll s → MayClaim s (ready_after s me.0 es) n head b t i × IsUnder (ready_after s me.0 es) n b t back hint me.0.owes)
@@ -85,11 +86,7 @@ module _ {T : Type 0} (stands : T → LayerState) (o : Opening) (slots id n head
   holder_log s q e =
       let d = before stands o st r id n me.0 es at h s q in
       let k = (ok s (setting_in stands o st r id n me.0 es at h s q)).1 in
-      back_holder_is s r.log ∙ (sym (ap (λ (z : GateAndLocks). z.locks.back) d.carried.gate) ∙ by_holder (there s).state.gate.locks.back (d.carried.agrees.locks whats.Back ∙ (k.holds_it ∙ e)))
-    where
-      by_holder : (w : Option ℕ) → is_caller n w ≡ true → w ≡ Some n
-      by_holder None h = absurd (false≢true h)
-      by_holder (Some d) h = ap Some (eqb-true d n h)
+      back_holder_is s r.log ∙ (sym (ap (λ (z : GateAndLocks). z.locks.back) d.carried.gate) ∙ holder_is_it n (there s).state.gate.locks.back (d.carried.agrees.locks whats.Back ∙ (k.holds_it ∙ e)))
 
   owing : IsOwing stands n r.owes (owed_by_place back b t hint r.owes) (owed_by_place back b t hint me.0.owes) (r.log ++ (es ++ entry n (acts.Place (block_address b head i) (block_size b / 16) layers.Lfh) ∷ []))
   owing = by_back back refl

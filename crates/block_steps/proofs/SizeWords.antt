@@ -5,7 +5,6 @@ use Rattle.std.specs.List.{find}
 use Rattle.std.proofs.lemmas.Bool.{cases_Bool, and_parts, and_from, eqb-true, false≢true}
 use Rattle.heap_model.specs.declared.Act.TheVariants as acts
 use Rattle.heap_model.specs.declared.Kind.TheVariants as kinds
-use Rattle.heap_model.specs.declared.Layer.{Layer}
 use Rattle.heap_model.specs.declared.Layer.TheVariants as layers
 use Rattle.heap_model.specs.Buckets.{block_address, block_count, block_size}
 use Rattle.heap_model.specs.State.{Setting, Span, Place, Status, Live, InHand, address, has_address, live_size, is_live, is_live_at, is_entered}
@@ -20,7 +19,7 @@ use Rattle.claim_rule.proofs.Advance.{before}
 use Rattle.step_parts.proofs.FrontEnd.{IsFront, some_pages}
 use Rattle.step_parts.proofs.BlockWords.{seat_at}
 use Rattle.step_parts.proofs.Starts.{begins}
-use Rattle.step_parts.proofs.ChangedPlaces.{lfh_address, size_is}
+use Rattle.step_parts.proofs.ChangedPlaces.{vs_address, back_address, large_address, lfh_address, size_is}
 use Rattle.step_parts.specs.InHand.{IsBlockNumber}
 
 module _ (us : Setting) (m : Configuration) (k : Keeps us m) (f : IsFront us.limits m.state.back.area m.state.lfh) (x : Span) (there : IsOneOf x m.state.back.area.spans) (is : x.kind ≡ kinds.Lfh)
@@ -38,12 +37,6 @@ module _ (us : Setting) (m : Configuration) (k : Keeps us m) (f : IsFront us.lim
       let two = h.two in
       let kind = clash h.span h.there (omega arith) (omega arith) in
       let z : kinds.Lfh ≡ kinds.Vs = sym kind ∙ h.kind in cc (z)
-    where
-      vs_address : (q : Place) → q.layer ≡ layers.Vs → address q ≡ q.start + 16
-      vs_address q e = by q.layer e
-        where
-          by : (l : Layer) → l ≡ layers.Vs → address (record q { layer = l }) ≡ q.start + 16
-          by l e = rw e refl
 
   no_back : (q : Place) → IsOneOf q m.state.back.places → has_address spot q ≡ true → ⊥
   no_back q j t =
@@ -53,12 +46,6 @@ module _ (us : Setting) (m : Configuration) (k : Keeps us m) (f : IsFront us.lim
       let some = some_pages 0 m.state.back.area.spans h.span f.order h.there in
       let kind = clash h.span h.there (omega arith) (omega arith) in
       let z : kinds.Lfh ≡ kinds.Back = sym kind ∙ h.kind in cc (z)
-    where
-      back_address : (q : Place) → q.layer ≡ layers.Back → address q ≡ q.start
-      back_address q e = by q.layer e
-        where
-          by : (l : Layer) → l ≡ layers.Back → address (record q { layer = l }) ≡ q.start
-          by l e = rw e refl
 
   no_large : (q : Place) → IsOneOf q m.state.large → has_address spot q ≡ true → ⊥
   no_large q j t =
@@ -66,12 +53,6 @@ module _ (us : Setting) (m : Configuration) (k : Keeps us m) (f : IsFront us.lim
       let at : q.start ≡ spot = sym (large_address q (all_at (λ (z : Place). z.layer ≡ layers.Large) q m.state.large k.homes.large j)) ∙ eqb-true (address q) spot t in
       let begins = h.begins in
       let last = (f.spans x there is).there in omega arith
-    where
-      large_address : (q : Place) → q.layer ≡ layers.Large → address q ≡ q.start
-      large_address q e = by q.layer e
-        where
-          by : (l : Layer) → l ≡ layers.Large → address (record q { layer = l }) ≡ q.start
-          by l e = rw e refl
 
   none_live : (ps : List Place) → ((q : Place) → IsOneOf q ps → has_address spot q ≡ true → is_live q.status ≡ true → ⊥) → has_live ps spot ≡ false
   none_live ps h = elim (cases_Bool (has_live ps spot)) [

@@ -1,5 +1,5 @@
 -- What others did while a caller is inside, and its search.
-use Rattle.std.proofs.Common.{◌≡◌, ℕ, Bool, true, false, not, ◌&&◌, ◌||◌, List, [], ◌∷◌, Option, refl, sym, ap, ◌∙◌, subst, inl, inr, eqb}
+use Rattle.std.proofs.Common.{◌≡◌, ℕ, Bool, true, false, not, ◌&&◌, List, [], ◌∷◌, Option, refl, sym, ap, ◌∙◌, subst, inl, inr, eqb}
 use Rattle.std.proofs.lemmas.Bool.{cases_Bool, and_parts, and_from, both_ways, false≢true, true≢false, not-true}
 use mathlib.Core.Option.{some}
 use lib.ListN.{get_elem?}
@@ -30,6 +30,7 @@ use Rattle.claim_rule.proofs.Quiet.{spans_of_same, leaves_gate}
 use Rattle.claim_rule.proofs.Advance.{before, role_of, some_setting, setting_in}
 use Rattle.step_parts.proofs.FrontEnd.{usual, valid_setting}
 use Rattle.step_parts.proofs.Stays.{seen_same}
+use Rattle.claim_rule.proofs.Counts.{or_parts}
 
 -- The entry disturbs nobody: it neither begins a call nor enters.
 abbrev pub leaves_undisturbed : Act → Bool
@@ -76,10 +77,6 @@ prepared_undisturbed s m c (e ∷ es) i h =
 
 other_one : {A : Type 0} (f : ℕ → A) (c n : ℕ) (x : A) → (c ≡ n → ⊥) → updated f c x n ≡ f n
 other_one f c n x ne = let e : eqb n c ≡ false = Rattle.std.proofs.lemmas.Bool.ne_eqb n c (λ q. ne (sym q)) in rw e refl
-
-or_parts : (a b : Bool) → (a || b) ≡ false → (a ≡ false) × (b ≡ false)
-or_parts true b e = absurd (true≢false e)
-or_parts false b e = (refl, e)
 
 undisturbed_before : (s : Setting) (m : Configuration) (c n : ℕ) (act : Act) → (c ≡ n → ⊥) → disturbed_after m.state.gate m.now.disturbed c act n ≡ false → m.now.disturbed n ≡ false
 undisturbed_before s m c n (acts.Begin call) ne e = sym (other_one m.now.disturbed c n _ ne) ∙ e

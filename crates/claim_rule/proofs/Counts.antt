@@ -22,7 +22,7 @@ abbrev pub is_apart : List ℕ → Bool
 is_apart [] = true
 is_apart (x ∷ xs) = not (is_among x xs) && is_apart xs
 
-or_parts : (a b : Bool) → (a || b) ≡ false → (a ≡ false) × (b ≡ false)
+pub or_parts : (a b : Bool) → (a || b) ≡ false → (a ≡ false) × (b ≡ false)
 or_parts true b e = absurd (true≢false e)
 or_parts false b e = (refl, e)
 

@@ -35,7 +35,7 @@ use Rattle.look_steps.specs.Laws.{LookBitsLaw, LookSizeLaw, LookHintLaw, LookTag
 use Rattle.step_parts.proofs.FrontEnd.{IsFront, front_here}
 use Rattle.step_parts.proofs.BlockWords.{in_lfh, into_lfh, span_found}
 use Rattle.step_parts.proofs.Filters.{in_filter}
-use Rattle.claim_rule.proofs.Ready.{reads}
+use Rattle.claim_rule.proofs.Ready.{holder_is_it, reads}
 use Rattle.step_parts.proofs.Tags.{tagged}
 
 ---- One configuration
@@ -102,11 +102,7 @@ module _ {T : Type 0} (stands : T → LayerState) (o : Opening) (slots id n : �
   owed_here : (s : Setting) → IsSettingOf o r.lead.roll s → holds (now_at s).state.gate n whats.Back ≡ true → me.0.owes ≡ r.owes
   owed_here s q e =
       let d = before stands o st r id n me.0 es at h s q in
-      (role_of stands o st r id n me.0 at h.role).5 (back_holder_is s r.log ∙ (sym (ap (λ (z : GateAndLocks). z.locks.back) d.carried.gate) ∙ by_holder (now_at s).state.gate.locks.back e))
-    where
-      by_holder : (w : Option ℕ) → is_caller n w ≡ true → w ≡ Some n
-      by_holder None h = absurd (false≢true h)
-      by_holder (Some d) h = ap Some (eqb-true d n h)
+      (role_of stands o st r id n me.0 at h.role).5 (back_holder_is s r.log ∙ (sym (ap (λ (z : GateAndLocks). z.locks.back) d.carried.gate) ∙ holder_is_it n (now_at s).state.gate.locks.back e))
 
   -- the number is that of the view
   by_number : (P : ℕ → Type 0) → P n → P (number_of me.0.role)

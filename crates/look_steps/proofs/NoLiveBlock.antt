@@ -6,7 +6,6 @@ use Rattle.std.proofs.lemmas.Bool.{cases_Bool, and_parts, and_from, both_ways, e
 use Rattle.heap_model.specs.declared.Act.TheVariants as acts
 use Rattle.heap_model.specs.declared.Kind.{Kind}
 use Rattle.heap_model.specs.declared.Kind.TheVariants as kinds
-use Rattle.heap_model.specs.declared.Layer.{Layer}
 use Rattle.heap_model.specs.declared.Layer.TheVariants as layers
 use Rattle.heap_model.specs.declared.Limits.{Limits}
 use Rattle.heap_model.specs.declared.What.TheVariants as whats
@@ -28,25 +27,7 @@ use Rattle.look_steps.specs.Denials.{IsNowhere, IsNotLarge, IsInNone, IsOfVs, Is
 use Rattle.step_parts.proofs.FrontEnd.{front_of, some_pages}
 use Rattle.step_parts.proofs.BlockWords.{in_lfh, seat_at}
 use Rattle.step_parts.proofs.Filters.{into_filter, in_filter}
-use Rattle.step_parts.proofs.ChangedPlaces.{lfh_address}
-
-vs_address : (q : Place) → q.layer ≡ layers.Vs → address q ≡ q.start + 16
-vs_address q e = by q.layer e
-  where
-    by : (l : Layer) → l ≡ layers.Vs → address (record q { layer = l }) ≡ q.start + 16
-    by l e = rw e refl
-
-back_address : (q : Place) → q.layer ≡ layers.Back → address q ≡ q.start
-back_address q e = by q.layer e
-  where
-    by : (l : Layer) → l ≡ layers.Back → address (record q { layer = l }) ≡ q.start
-    by l e = rw e refl
-
-large_address : (q : Place) → q.layer ≡ layers.Large → address q ≡ q.start
-large_address q e = by q.layer e
-  where
-    by : (l : Layer) → l ≡ layers.Large → address (record q { layer = l }) ≡ q.start
-    by l e = rw e refl
+use Rattle.step_parts.proofs.ChangedPlaces.{lfh_address, vs_address, back_address, large_address}
 
 module _ (us : Setting) (m k : Configuration) (n a : ℕ) (keep : Keeps us m) (r : AgreesFor n m k) (keeps_seen : (x : Span) → IsOneOf x (lfh_spans k.state.back.area) → IsOneOf x (lfh_spans m.state.back.area)) where
   -- a span that has the address, of this kind

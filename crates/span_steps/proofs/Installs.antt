@@ -1,7 +1,7 @@
 -- The law of a subsegment that is made with the claim of its first block.
 use Rattle.std.proofs.Common.{◌≡◌, ℕ, ◌+◌, ◌*◌, ◌/◌, ◌<◌, Bool, true, false, ◌&&◌, ◌||◌, ◌==◌, List, [], ◌∷◌, ◌++◌, length, get_or, set, bit_or, Option, Some, None, refl, sym, ap, ◌∙◌, subst, arith, inl, inr, eq-eqb}
 use Rattle.std.specs.Prelude.{is_some, nat_lt, nat_le}
-use Rattle.std.proofs.lemmas.Bool.{and_from, eqb-true, false≢true, lt-ltb, le-leb}
+use Rattle.std.proofs.lemmas.Bool.{and_from, false≢true, lt-ltb, le-leb}
 use mathlib.Core.Option.{none, some}
 use lib.ListN.{get_elem?}
 use Rattle.atomic_table.specs.Table.{State, Me, Act, step, keeps, stepped, carried_after, Valid}
@@ -14,7 +14,7 @@ use Rattle.heap_model.specs.declared.What.TheVariants as whats
 use Rattle.heap_model.specs.Bits.{starts_at}
 use Rattle.heap_model.specs.Buckets.{block_size, block_address, block_count}
 use Rattle.heap_model.specs.Ranges.{is_of_kind}
-use Rattle.heap_model.specs.State.{Setting, Span, Place, GateAndLocks, BackPart, is_caller, holds}
+use Rattle.heap_model.specs.State.{Setting, Span, Place, GateAndLocks, BackPart, holds}
 use Rattle.heap_model.specs.CallState.{Configuration, SpanHistory}
 use Rattle.heap_model.specs.Legal.{may_follow, after, meets_demand}
 use Rattle.heap_model.specs.History.{configuration_after, configuration_of, first_configuration, may_all_follow}
@@ -55,6 +55,7 @@ use Rattle.step_parts.proofs.BlockWords.{into_lfh}
 use Rattle.step_parts.proofs.Placed.{claim_same, placed, IsPlaced}
 use Rattle.span_steps.proofs.NewSubsegment.{made_shown, no_block, in_inserted}
 use Rattle.heap_model.specs.declared.What.{What}
+use Rattle.claim_rule.proofs.Ready.{holder_is_it}
 
 ---- A segment is reserved first, or not
 
@@ -251,15 +252,11 @@ module _ {T : Type 0} (stands : T → LayerState) (o : Opening) (slots id n : �
       named_all : is_named (length r.lead.roll) (r.log ++ es) ≡ true
       named_all = named-append (length r.lead.roll) r.log es r.numbers.names (named_by (length r.lead.roll) n es (role_of stands o st r id n me.0 at h.role).0 (by stands o st r id n me.0 es at h))
 
-  holder_is_it : (w : Option ℕ) → is_caller n w ≡ true → w ≡ Some n
-  holder_is_it None h = absurd (false≢true h)
-  holder_is_it (Some d) h = ap Some (eqb-true d n h)
-
   mine : (s : Setting) (q : IsSettingOf o r.lead.roll s) → holds (now_at s).state.gate n whats.Back ≡ true
   mine s q = (before stands o st r id n me.0 es at h s q).carried.agrees.locks whats.Back ∙ (ready_at s q).holds_it
 
   held : (s : Setting) (q : IsSettingOf o r.lead.roll s) → (now_at s).state.gate.locks.back ≡ Some n
-  held s q = holder_is_it (now_at s).state.gate.locks.back (mine s q)
+  held s q = holder_is_it n (now_at s).state.gate.locks.back (mine s q)
 
   log_held : back_holder r.log ≡ Some n
   log_held =

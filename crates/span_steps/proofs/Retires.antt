@@ -10,7 +10,7 @@ use Rattle.heap_model.specs.declared.Act.TheVariants as acts
 use Rattle.heap_model.specs.declared.Entry.{Entry}
 use Rattle.heap_model.specs.declared.Kind.TheVariants as kinds
 use Rattle.heap_model.specs.declared.What.TheVariants as whats
-use Rattle.heap_model.specs.State.{Setting, Span, BackPart, GateAndLocks, is_caller, holds, remove_found, updated}
+use Rattle.heap_model.specs.State.{Setting, Span, BackPart, GateAndLocks, holds, remove_found, updated}
 use Rattle.heap_model.specs.Ranges.{is_of_kind}
 use Rattle.heap_model.specs.CallState.{Configuration, CallState, SpanHistory, caller_view}
 use Rattle.heap_model.specs.Search.{begins_at, span_at}
@@ -37,7 +37,7 @@ use Rattle.span_steps.specs.Retires.{owed_by_retire, MayRetire, retired}
 use Rattle.span_steps.specs.Laws.{RetireLaw}
 use Rattle.claim_rule.proofs.Behind.{owed_soundly}
 use Rattle.step_parts.proofs.FrontEnd.{front_here}
-use Rattle.claim_rule.proofs.Ready.{stable_here}
+use Rattle.claim_rule.proofs.Ready.{holder_is_it, stable_here}
 use Rattle.span_steps.proofs.RetiredSubsegment.{freed_shown, found}
 use Rattle.heap_model.specs.declared.What.{What}
 use Rattle.claim_rule.specs.Home.{HasSlot}
@@ -64,16 +64,12 @@ module _ {T : Type 0} (stands : T → LayerState) (o : Opening) (slots id n firs
   ready_at : (s : Setting) → IsSettingOf o r.lead.roll s → MayRetire s (ready_after s me.0 es) n first pages b t v me.0.owes
   ready_at s q = ok s (in_view s q)
 
-  holder_is_it : (w : Option ℕ) → is_caller n w ≡ true → w ≡ Some n
-  holder_is_it None h = absurd (false≢true h)
-  holder_is_it (Some d) h = ap Some (eqb-true d n h)
-
   -- what the row needs of the locks
   holds_it : (s : Setting) → IsSettingOf o r.lead.roll s → holds (ready_after s me.0 es).state.gate n whats.Back ≡ true
   holds_it s q = (unspan_locks s (ready_after s me.0 es) n first (ready_at s q).ok).0
 
   held : (s : Setting) → IsSettingOf o r.lead.roll s → (now_at s).state.gate.locks.back ≡ Some n
-  held s q = holder_is_it (now_at s).state.gate.locks.back ((before stands o st r id n me.0 es at h s q).carried.agrees.locks whats.Back ∙ holds_it s q)
+  held s q = holder_is_it n (now_at s).state.gate.locks.back ((before stands o st r id n me.0 es at h s q).carried.agrees.locks whats.Back ∙ holds_it s q)
 
   log_held : back_holder r.log ≡ Some n
   log_held =

@@ -65,6 +65,25 @@ lfh_address p e = by p.layer e
     by : (k : Layer) → k ≡ layers.Lfh → address (record p { layer = k }) ≡ p.start
     by k e = rw e refl
 
+-- .. one of another layer has the address that its layer says
+pub vs_address : (q : Place) → q.layer ≡ layers.Vs → address q ≡ q.start + 16
+vs_address q e = by q.layer e
+  where
+    by : (l : Layer) → l ≡ layers.Vs → address (record q { layer = l }) ≡ q.start + 16
+    by l e = rw e refl
+
+pub back_address : (q : Place) → q.layer ≡ layers.Back → address q ≡ q.start
+back_address q e = by q.layer e
+  where
+    by : (l : Layer) → l ≡ layers.Back → address (record q { layer = l }) ≡ q.start
+    by l e = rw e refl
+
+pub large_address : (q : Place) → q.layer ≡ layers.Large → address q ≡ q.start
+large_address q e = by q.layer e
+  where
+    by : (l : Layer) → l ≡ layers.Large → address (record q { layer = l }) ≡ q.start
+    by l e = rw e refl
+
 module _ (ps : List Place) (of : AllByRecursion OfLfh ps) (apart : HaveOwnStarts ps) (p : Place) (there : IsOneOf p ps) where
   -- a test of the address and of something that the place has
   same_test : (u : Status → Bool) → u p.status ≡ true → AllByRecursion (λ q. (has_address p.start q && u q.status) ≡ begins p.start q) ps

@@ -2,7 +2,7 @@
 use Rattle.std.proofs.Common.{◌≡◌, ℕ, ◌+◌, ◌*◌, ◌/◌, ◌%◌, ◌<◌, ◌≤◌, Bool, true, false, not, ◌&&◌, ◌==◌, List, [], ◌∷◌, get_or, set, bit_or, refl, sym, ap, ◌∙◌, subst, arith, Option, Some, None, inl, inr, ⊎_elim, eqb, eq-eqb, ne_eqb}
 use Rattle.std.specs.Prelude.{is_some, unwrap_or}
 use Rattle.std.specs.List.{find, list_any}
-use Rattle.std.proofs.lemmas.Bool.{and_parts, and_from, both_ways, cases_Bool, eqb-true, eqb-false, false≢true, le-leb, lt-ltb, or_left}
+use Rattle.std.proofs.lemmas.Bool.{and_parts, and_from, both_ways, cases_Bool, eqb-true, eqb-false, le-leb, lt-ltb, or_left}
 use Rattle.heap_model.specs.declared.Act.{Act as Deed}
 use Rattle.heap_model.specs.declared.Act.TheVariants as acts
 use Rattle.heap_model.specs.declared.Kind.TheVariants as kinds
@@ -12,7 +12,7 @@ use Rattle.heap_model.specs.declared.What.TheVariants as whats
 use Rattle.heap_model.specs.Backend.{in_span}
 use Rattle.heap_model.specs.Bits.{starts_at, has_bit}
 use Rattle.heap_model.specs.Buckets.{block_size, block_address, block_count}
-use Rattle.heap_model.specs.State.{Setting, Area, Span, Place, InHand, is_kind, is_entered, holds, is_caller, updated}
+use Rattle.heap_model.specs.State.{Setting, Area, Span, Place, InHand, is_kind, is_entered, holds, updated}
 use Rattle.heap_model.specs.Stay.{for_some}
 use Rattle.heap_model.specs.CallState.{Configuration, SpanHistory, CallerView, CallState}
 use Rattle.heap_model.specs.Search.{spans_of, is_span_of, begins_at, first_of, hint_or, request_of, may_claim}
@@ -34,6 +34,7 @@ use Rattle.claim_rule.proofs.Behind.{stays, IsBehind, IsOwedSoundly, owed_soundl
 use Rattle.step_parts.proofs.FrontEnd.{IsFront}
 use Rattle.step_parts.proofs.BlockWords.{in_lfh, seat_at, words_kept, set_word, bit_here, word_at, at_below}
 use Rattle.step_parts.proofs.Filters.{into_filter}
+use Rattle.claim_rule.proofs.Ready.{holder_is_it}
 
 ---- Hints
 
@@ -203,11 +204,7 @@ module _ (l : Limits) (s : Setting) (m : Configuration) (n : ℕ) (f : IsFront l
     behind_under word e = behind_by true owes word e (λ b t lb hb ft. hint_owed b t ft) tag_owed
 
     holder : m.state.gate.locks.back ≡ Some n
-    holder = by_holder m.state.gate.locks.back mine
-      where
-        by_holder : (o : Option ℕ) → is_caller n o ≡ true → o ≡ Some n
-        by_holder None h = absurd (false≢true h)
-        by_holder (Some d) h = ap Some (eqb-true d n h)
+    holder = holder_is_it n m.state.gate.locks.back mine
 
     heads_after : HintsAreHeads m → HintsAreHeads next
     heads_after h b t first e = elim (cases_Bool (eqb b x.bucket && eqb t x.slot)) [
