@@ -1,6 +1,6 @@
 -- What the entries of a call are, by its reply. The documentation of HeapAlloc, HeapFree and HeapSize says what each call does;
 -- which entries stand for it is this project's own.
-use Rattle.std.specs.Prelude.{◌≡◌, ℕ, ◌+◌, ◌/◌, Bool, true, false, List, [], ◌∷◌, ◌++◌, map, cond}
+use Rattle.std.specs.Prelude.{◌≡◌, ℕ, ◌/◌, Bool, true, false, List, [], ◌∷◌, ◌++◌, map, cond}
 use Rattle.heap_model.specs.declared.Call.{Call}
 use Rattle.heap_model.specs.declared.Call.TheVariants as calls
 use Rattle.heap_model.specs.declared.Act.{Act}
