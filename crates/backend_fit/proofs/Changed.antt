@@ -1,13 +1,13 @@
 -- The block that starts at a page, among blocks and among all runs: gone, or with another length.
-use Rattle.std.proofs.Common.{◌≡◌, ℕ, ◌+◌, ◌*◌, ◌-◌, ◌<◌, ◌≤◌, Bool, true, false, List, [], ◌∷◌, map, refl, sym, ap, ◌∙◌, arith, eqb, ltb, inl, inr}
+use Rattle.std.proofs.Common.{◌≡◌, ℕ, ◌+◌, ◌*◌, ◌-◌, ◌<◌, true, false, List, [], ◌∷◌, map, refl, sym, ap, ◌∙◌, arith, eqb, inl, inr}
 use Rattle.std.specs.Prelude.{IfSome, filter}
-use Rattle.std.specs.List.{find, list_any}
+use Rattle.std.specs.List.{find}
 use Rattle.std.proofs.lemmas.Bool.{cases_Bool, eqb-true, ne_eqb, eq-eqb}
 use Rattle.heap_model.specs.declared.Kind.{Kind}
 use Rattle.heap_model.specs.declared.Kind.TheVariants as kinds
 use Rattle.heap_model.specs.declared.Run.{Run}
 use Rattle.heap_model.specs.Marks.{back_mark}
-use Rattle.heap_model.specs.State.{Span, Place, is_kind, has_address, insert_place, by_address, change_found, remove_found}
+use Rattle.heap_model.specs.State.{Span, Place, is_kind, is_live_at, change_found, remove_found}
 use Rattle.heap_model.specs.Search.{begins_at}
 use Rattle.heap_model.specs.Legal.{resize_place}
 use Rattle.page_ranges.specs.Spans.{span_of, AreRising}
@@ -67,14 +67,17 @@ module _ (first n unused : ℕ) where
         ]
   ]
 
-  pub places_changed : (rs : List Run) → change_found (has_address (4096 * first)) grown (map place_of rs) ≡ map place_of (change_found (starts_at first) changed rs)
+  pub live_test : (a : ℕ) (r : Run) → is_live_at a (place_of r) ≡ eqb (4096 * r.first) a
+  live_test a r = elim (cases_Bool (eqb (4096 * r.first) a)) [ inl e ↦ rw e refl | inr e ↦ rw e refl ]
+
+  pub places_changed : (rs : List Run) → change_found (is_live_at (4096 * first)) grown (map place_of rs) ≡ map place_of (change_found (starts_at first) changed rs)
   places_changed [] = refl
   places_changed (r ∷ rs) = elim (cases_Bool (eqb r.first first)) [
     | inl e ↦
-        let t = eq-eqb (4096 * r.first) (4096 * first) (omega (arith, eqb-true r.first first e)) in
+        let t = live_test (4096 * first) r ∙ eq-eqb (4096 * r.first) (4096 * first) (omega (arith, eqb-true r.first first e)) in
         rw (e, t) refl
     | inr e ↦
-        let t = ne_eqb (4096 * r.first) (4096 * first) (λ k. differ r e (omega (arith, k))) in
+        let t = live_test (4096 * first) r ∙ ne_eqb (4096 * r.first) (4096 * first) (λ k. differ r e (omega (arith, k))) in
         rw (e, t) (ap (λ (ps : List Place). place_of r ∷ ps) (places_changed rs))
   ]
     where

@@ -1,12 +1,12 @@
 -- Runs and spans of one kind, among all.
-use Rattle.std.proofs.Common.{◌≡◌, ◌⊎◌, ℕ, ◌+◌, ◌<◌, ◌≤◌, Bool, true, false, List, [], ◌∷◌, map, Some, refl, sym, ap, ◌∙◌, arith, ltb, inl, inr}
+use Rattle.std.proofs.Common.{◌≡◌, ◌⊎◌, ℕ, ◌+◌, ◌<◌, ◌≤◌, Bool, true, false, List, [], ◌∷◌, Some, refl, sym, ap, ◌∙◌, arith, ltb, inl, inr}
 use Rattle.std.specs.Prelude.{filter}
 use Rattle.std.specs.List.{AllByRecursion, find}
 use Rattle.std.proofs.lemmas.Bool.{cases_Bool, lt-ltb, ltb-true}
 use Rattle.heap_model.specs.declared.Run.{Run}
-use Rattle.heap_model.specs.State.{Span, remove_found}
+use Rattle.heap_model.specs.State.{remove_found}
 use Rattle.heap_model.proofs.ListLemmas.{filter-remove_found}
-use Rattle.page_ranges.specs.Spans.{span_of, AreRising}
+use Rattle.page_ranges.specs.Spans.{AreRising}
 use Rattle.backend_fit.specs.Effects.{insert_run}
 
 ---- One less

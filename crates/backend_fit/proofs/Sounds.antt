@@ -1,6 +1,5 @@
 -- What holds of a back end, by its pages.
 use Rattle.std.proofs.Common.{◌≡◌}
-use Rattle.heap_model.specs.declared.Limits.{Limits}
 use Rattle.heap_model.specs.Limits.{AreValid}
 use Rattle.backend_fit.specs.Kept.{Kept, pages_in}
 use Rattle.backend_fit.specs.Sound.{AreSound, IsSound}

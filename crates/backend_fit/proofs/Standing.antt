@@ -1,16 +1,16 @@
 -- What a back end stands for behind each of its calls.
-use Rattle.std.proofs.Common.{◌≡◌, ℕ, ◌*◌, ◌-◌, Bool, true, false, List, [], ◌∷◌, map, refl, sym, ap, subst, ◌∙◌, inl, inr}
+use Rattle.std.proofs.Common.{◌≡◌, ℕ, ◌*◌, ◌-◌, ◌/◌, List, [], map, refl, sym, ap, subst, ◌∙◌, arith, inl, inr}
 use Rattle.std.specs.Prelude.{IfSome, filter}
-use Rattle.std.specs.List.{find}
 use Rattle.std.proofs.lemmas.Bool.{cases_Bool}
 use Rattle.heap_model.specs.declared.Kind.TheVariants as kinds
 use Rattle.heap_model.specs.declared.Limits.{Limits}
 use Rattle.heap_model.specs.declared.Opening.{Opening}
 use Rattle.heap_model.specs.declared.Run.{Run}
 use Rattle.heap_model.specs.Marks.{back_mark}
-use Rattle.heap_model.specs.State.{State, Area, BackPart, Span, Place, has_address, is_kind, insert_place, by_address, change_found, remove_found, opening}
+use Rattle.heap_model.specs.State.{Area, BackPart, Span, Place, has_address, is_live_at, insert_place, by_address, change_found, remove_found, opening}
 use Rattle.heap_model.specs.Layers.{StandsForBack, sorted_back}
-use Rattle.heap_model.specs.Legal.{with_span, with_area, resize_place}
+use Rattle.heap_model.specs.Legal.{with_span, with_area, area_resized, resize_place}
+use Rattle.heap_model.specs.Geometry.{page_bytes}
 use Rattle.heap_model.specs.Search.{span_at}
 use Rattle.serial_laws.proofs.Sorted.{OnlyOne, removed_sorted, changed_sorted}
 use Rattle.page_ranges.specs.Spans.{span_of, AreRising}
@@ -20,7 +20,7 @@ use Rattle.backend_fit.specs.Kept.{Kept, area_of, spans_of, is_block_run, block_
 use Rattle.backend_fit.specs.Sound.{IsSound}
 use Rattle.backend_fit.proofs.OfKind.{run_of, run_other, filter_rising}
 use Rattle.backend_fit.proofs.Rising.{place_inserted, only_one, removed_place}
-use Rattle.backend_fit.proofs.Changed.{blocks_without, blocks_changed, places_changed}
+use Rattle.backend_fit.proofs.Changed.{live_test, blocks_without, blocks_changed, places_changed}
 
 -- it is enough to speak of what the lock guards
 becomes : (old new : Kept) (f : BackPart → BackPart) → new.limits ≡ old.limits → ((b : BackPart) → part_of old ≡ sorted_back b → part_of new ≡ sorted_back (f b)) → Becomes old new f
@@ -52,6 +52,18 @@ module _ (old new : Kept) (limits : new.limits ≡ old.limits) (sound : IsSound 
         subst (OnlyOne (has_address (4096 * first))) places_are
         (only_one (has_address (4096 * first)) (4096 * first) (λ (r : Run). refl) 0 (block_runs old.words) (filter_rising is_block_run 0 runs rising))
 
+    only_live : (a : ℕ) → OnlyOne (is_live_at a) (by_address b.places)
+    only_live a =
+        subst (OnlyOne (is_live_at a)) places_are
+        (only_one (is_live_at a) a (live_test 0 0 0 a) 0 (block_runs old.words) (filter_rising is_block_run 0 runs rising))
+
+    -- the area that is resized, by its pages
+    resized_area : (first n : ℕ) → with_size b.area first n ≡ area_resized page_bytes b.area (4096 * first) (256 * n)
+    resized_area first n =
+        let page : 4096 * first / 4096 ≡ first = omega arith in
+        let pages : 256 * n / 256 ≡ n = omega arith in
+        sym (ap (λ (q : ℕ). with_size b.area q (256 * n / 256)) page ∙ ap (λ (q : ℕ). with_size b.area first q) pages)
+
     taken_part : (r : Run) → area_of new ≡ with_span (with_segment (area_of old) r.first) (span_of r) → spans_of new ≡ insert_run r runs → part_of new ≡ sorted_back (part_with b r)
     taken_part r area spans =
         both new (part_with b r) (area ∙ ap (λ (x : Area). with_span (with_segment x r.first) (span_of r)) area_is)
@@ -74,12 +86,12 @@ module _ (old new : Kept) (limits : new.limits ≡ old.limits) (sound : IsSound 
     resized_part : (first n unused : ℕ) → IfSome (span_at (area_of old) first) (λ (x : Span). x.kind ≡ kinds.Back) → area_of new ≡ with_size (area_of old) first n →
         spans_of new ≡ change_found (starts_at first) (with_mark n (back_mark unused)) runs → part_of new ≡ sorted_back (part_resized b first n unused)
     resized_part first n unused kind area spans =
-        both new (part_resized b first n unused) (area ∙ ap (λ (x : Area). with_size x first n) area_is)
+        both new (part_resized b first n unused) (area ∙ ap (λ (x : Area). with_size x first n) area_is ∙ resized_area first n)
         (ap (λ (rs : List Run). map place_of (filter is_block_run rs)) spans
         ∙ (ap (map place_of) (blocks_changed first n unused runs kind)
         ∙ (sym (places_changed first n unused (block_runs old.words))
-        ∙ (ap (change_found (has_address (4096 * first)) (resize_place (256 * n) (4096 * n - unused))) places_are
-        ∙ sym (changed_sorted (has_address (4096 * first)) (resize_place (256 * n) (4096 * n - unused)) (λ (p : Place). refl) b.places (only first))))))
+        ∙ (ap (change_found (is_live_at (4096 * first)) (resize_place (256 * n) (4096 * n - unused))) places_are
+        ∙ sym (changed_sorted (is_live_at (4096 * first)) (resize_place (256 * n) (4096 * n - unused)) (λ (p : Place). refl) b.places (only_live (4096 * first)))))))
 
   pub takes : (r : Run) → area_of new ≡ with_span (with_segment (area_of old) r.first) (span_of r) → spans_of new ≡ insert_run r runs → Becomes old new (λ (b : BackPart). part_with b r)
   takes r area spans = becomes old new (λ (b : BackPart). part_with b r) limits (λ b t. taken_part b t r area spans)

@@ -1,19 +1,18 @@
 -- What a back end tells of each state that it stands for.
-use Rattle.std.proofs.Common.{◌≡◌, ◌⊎◌, ℕ, ◌+◌, ◌*◌, ◌/◌, ◌<◌, ◌≤◌, Bool, true, false, ◌&&◌, List, [], ◌∷◌, map, Option, Some, None, refl, sym, ap, subst, ◌∙◌, arith, eqb, inl, inr}
+use Rattle.std.proofs.Common.{◌≡◌, ◌⊎◌, ℕ, ◌+◌, ◌*◌, ◌/◌, ◌<◌, ◌≤◌, true, false, List, [], ◌∷◌, map, Some, refl, sym, ap, subst, ◌∙◌, arith, eqb, inl, inr}
 use Rattle.std.specs.Prelude.{option_map, filter}
 use Rattle.std.specs.List.{AllByRecursion, find, list_any}
 use Rattle.std.proofs.lemmas.Bool.{cases_Bool, and_left, eqb-true, ne_eqb, false≢true}
 use Rattle.heap_model.specs.declared.Kind.{Kind}
 use Rattle.heap_model.specs.declared.Kind.TheVariants as kinds
-use Rattle.heap_model.specs.declared.Limits.{Limits}
 use Rattle.heap_model.specs.declared.Opening.{Opening}
 use Rattle.heap_model.specs.declared.Run.{Run}
 use Rattle.heap_model.specs.declared.What.TheVariants as whats
-use Rattle.heap_model.specs.State.{State, Area, BackPart, Span, Place, has_address, by_address, is_kind, remove_found}
+use Rattle.heap_model.specs.State.{State, Area, BackPart, Span, has_address, by_address, is_kind, remove_found}
 use Rattle.heap_model.specs.Backend.{back_place}
 use Rattle.heap_model.specs.Ranges.{is_of_kind}
-use Rattle.heap_model.specs.Search.{begins_at, span_at}
-use Rattle.heap_model.specs.Legal.{are_used, has_place, leaves_whole, lies_in}
+use Rattle.heap_model.specs.Search.{begins_at}
+use Rattle.heap_model.specs.Legal.{are_used, leaves_whole, lies_in}
 use Rattle.heap_model.specs.Layers.{StandsForBack}
 use Rattle.serial_laws.proofs.Sorted.{OnlyOne, any_sorted, found_sorted, removed_sorted}
 use Rattle.page_ranges.specs.Words.{runs_of}

@@ -3,11 +3,12 @@ use Rattle.std.specs.Prelude.{ℕ, ◌+◌, ◌*◌, ◌-◌, ◌/◌, ◌==◌,
 use Rattle.heap_model.specs.declared.Kind.TheVariants as kinds
 use Rattle.heap_model.specs.declared.Mark.{Mark}
 use Rattle.heap_model.specs.declared.Run.{Run}
-use Rattle.heap_model.specs.State.{Area, BackPart, Span, Place, change_found, remove_found, has_address, is_kind}
+use Rattle.heap_model.specs.State.{Area, BackPart, Span, Place, change_found, remove_found, has_address, is_live_at, is_kind}
+use Rattle.heap_model.specs.Geometry.{page_bytes}
 use Rattle.heap_model.specs.Backend.{free_runs, is_free}
 use Rattle.heap_model.specs.Stay.{run_from}
 use Rattle.heap_model.specs.Search.{begins_at}
-use Rattle.heap_model.specs.Legal.{commit, is_back_at, with_pages, with_span, with_area, resize_place}
+use Rattle.heap_model.specs.Legal.{commit, is_back_at, with_pages, with_span, area_resized, resize_place}
 use Rattle.serial_laws.specs.BackCalls.{live_place}
 use Rattle.page_ranges.specs.Spans.{span_of}
 
@@ -78,6 +79,6 @@ part_without b first = record { area = without_span b.area first; places = remov
 -- with n pages in the span of the back end that begins at a page, and with so many unused bytes in its place
 abbrev pub part_resized : BackPart → ℕ → ℕ → ℕ → BackPart
 part_resized b first n unused = record {
-  area = with_size b.area first n;
-  places = change_found (has_address (4096 * first)) (resize_place (256 * n) (4096 * n - unused)) b.places;
+  area = area_resized page_bytes b.area (4096 * first) (256 * n);
+  places = change_found (is_live_at (4096 * first)) (resize_place (256 * n) (4096 * n - unused)) b.places;
 }

@@ -8,12 +8,12 @@
 //! pages.
 //!
 //! Everything is written over the number of segments, and a page is only a unit: nothing here rests on its bytes but the
-//! condition of `resize` that the unused bytes are fewer than those of a page.
+//! condition of `resize` that the unused bytes are fewer than those of a page, and the places that a back end stands for.
 #![tactic(auto)]
 
 pub mod laws;
 
-ghost use Rattle.std.specs.Prelude.{◌≡◌, ℕ, ◌+◌, ◌*◌, ◌<◌, ◌≤◌, Option, option_map, None, Some, IfSome, IfNone, IfOk, IsSome, is_some, nat_le, count_by, true, false, length, [], if◌then◌else◌};
+ghost use Rattle.std.specs.Prelude.{◌≡◌, ◌+◌, ◌*◌, ◌<◌, ◌≤◌, Option, option_map, None, Some, IfSome, IfNone, IfOk, IsSome, is_some, nat_le, count_by, true, false, length, [], if◌then◌else◌};
 ghost use Rattle.std.specs.Bool.{OnTrue, OnFalse};
 ghost use Rattle.std.specs.List.{find};
 ghost use Rattle.heap_model.specs.declared.Kind.TheVariants as kinds;
@@ -25,10 +25,9 @@ ghost use Rattle.heap_model.specs.State.{change_found, remove_found, opening};
 ghost use Rattle.heap_model.specs.Backend.{numbers, is_usable, free_runs, is_better, back_place, next_segment};
 ghost use Rattle.heap_model.specs.Search.{span_at};
 ghost use Rattle.heap_model.specs.Legal.{with_span, with_area};
-ghost use Rattle.page_region.specs.Held.{IsHeld};
 ghost use Rattle.page_ranges.specs.Words.{runs_of};
 ghost use Rattle.page_ranges.specs.Ranges.{IsWhole, has_page};
-ghost use Rattle.page_ranges.specs.Spans.{is_of_free, plain, AreSettled};
+ghost use Rattle.page_ranges.specs.Spans.{is_of_free, plain};
 ghost use Rattle.backend_fit.specs.Pages.{pages_area, taken_in};
 ghost use Rattle.backend_fit.specs.Kept.{area_of, spans_of, layer_of, Becomes};
 ghost use Rattle.backend_fit.specs.Effects.{part_with, part_without, part_resized, with_segment, marked_run, marked_span, insert_run, starts_at, with_mark, without_span, with_size, reach_of, is_idle, decommitted};

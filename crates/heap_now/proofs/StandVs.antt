@@ -17,7 +17,7 @@ use Rattle.heap_model.proofs.ListLemmas.{filter-insert_span}
 use Rattle.heap_soundness.specs.Sound.{AreInOrder}
 use Rattle.serial_laws.specs.BackCalls.{plain, one_more_reserved}
 use Rattle.serial_laws.specs.VsCalls as laws
-use Rattle.serial_laws.specs.VsCalls.{vs_block, vs_span_for, vs_without, live_vs, area_closed, EndsVs}
+use Rattle.serial_laws.specs.VsCalls.{vs_block, vs_span_for, EndsVs}
 use Rattle.claim_rule.specs.Shown.{lfh_spans}
 use Rattle.serial_laws.proofs.VsAllocate.{gap_allocation, span_allocation, reserving_span, vs_refusal}
 use Rattle.backend_fit.specs.Kept.{Kept, area_of}

@@ -16,7 +16,7 @@ mod front;
 mod layers;
 mod vs_blocks;
 
-ghost use Rattle.std.specs.Prelude.{◌≡◌, ◌*◌, IfOk, length};
+ghost use Rattle.std.specs.Prelude.{◌≡◌, ◌*◌, IfOk};
 ghost use Rattle.heap_model.specs.State.{live};
 ghost use Rattle.heap_model.specs.CallState.{Configuration};
 ghost use Rattle.heap_model.specs.History.{first_configuration};

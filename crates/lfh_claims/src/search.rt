@@ -5,7 +5,7 @@ ghost use Rattle.heap_model.specs.Buckets.{bucket_pages, block_address, block_co
 ghost use Rattle.heap_model.specs.Search.{own_block as own_number};
 ghost use Rattle.claim_rule.specs.Places.{hints_region};
 ghost use Rattle.lfh_buckets.specs.Blocks.{IsBucket};
-ghost use Rattle.lfh_claims.specs.Scan.{AreTagged, IsPass, IsAtHint, IsComing, search_key, scan, words_with};
+ghost use Rattle.lfh_claims.specs.Scan.{AreTagged, IsPass, IsAtHint, search_key, scan, words_with};
 ghost use Rattle.table_words.specs.Told.{AreWords, bits_in};
 
 use claim_rule::TAGS;

@@ -5,7 +5,7 @@
 //! its number of bytes.
 #![tactic(auto)]
 
-ghost use Rattle.std.specs.Prelude.{◌≡◌, ℕ, ◌+◌, ◌*◌, ◌<◌, ◌≤◌, Bool, false, true, replicate, count_by, MatchOption, IfOk, length};
+ghost use Rattle.std.specs.Prelude.{◌≡◌, ℕ, ◌+◌, ◌*◌, ◌<◌, ◌≤◌, false, true, replicate, count_by, MatchOption, IfOk, length};
 ghost use Rattle.heap_model.specs.Limits.{AreValid};
 ghost use Rattle.heap_model.specs.Backend.{numbers};
 ghost use Rattle.heap_model.specs.Legal.{commit};

@@ -1,5 +1,5 @@
 // A report that was worked out by hand.
-ghost use Rattle.std.specs.Prelude.{◌≡◌, ℕ, ◌+◌, ◌*◌, ◌<◌, ◌≤◌, length, IfOk, IsTrue, List, slice_index};
+ghost use Rattle.std.specs.Prelude.{◌≡◌, ℕ, ◌+◌, ◌*◌, ◌<◌, ◌≤◌, IfOk, IsTrue, List, slice_index};
 ghost use Rattle.claim_rule.specs.Places.{sizes_region, data_region};
 ghost use Rattle.table_words.specs.Told.{AreWords};
 ghost use Rattle.vs_headers.specs.declared.Head.{Head};

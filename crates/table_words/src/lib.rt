@@ -7,7 +7,7 @@
 #[cfg(test)]
 mod tests;
 
-ghost use Rattle.std.specs.Prelude.{◌≡◌, ◌+◌, ◌*◌, ◌<◌, ◌≤◌, IfOk, length, replicate, slice_index, slice_set};
+ghost use Rattle.std.specs.Prelude.{◌≡◌, ◌+◌, ◌*◌, ◌<◌, ◌≤◌, IfOk, replicate};
 ghost use Rattle.heap_model.specs.Limits.{AreValid};
 ghost use Rattle.claim_rule.specs.Places.{active_region, hints_region, tags_region, bitmaps_region, sizes_region, data_region, word_count};
 

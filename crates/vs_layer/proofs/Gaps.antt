@@ -5,7 +5,7 @@ use Rattle.std.specs.List.{find, list_any}
 use Rattle.std.proofs.lemmas.Bool.{cases_Bool, cases_lt, cases_eq, cases_order, both_ways, eqb-true, eq-eqb, ne_eqb, and_parts, and_from, false_from_ne_true}
 use Rattle.heap_model.specs.Runs.{Run, runs, IsRun}
 use Rattle.heap_model.specs.State.{Span}
-use Rattle.heap_model.specs.Ranges.{is_clear, is_smaller, taken_of, vs_place}
+use Rattle.heap_model.specs.Ranges.{is_clear}
 use Rattle.heap_model.specs.Ranges as ranges
 use Rattle.heap_model.specs.Stay.{run_from}
 use Rattle.heap_soundness.specs.Sound.{IsOneOf}

@@ -1,7 +1,7 @@
 -- What the variable-size layer stands for behind each of its calls.
-use Rattle.std.proofs.Common.{◌≡◌, ℕ, suc, ◌+◌, ◌*◌, ◌<◌, ◌≤◌, Bool, true, false, List, [], ◌∷◌, Option, Some, None, refl, sym, ap, subst, ◌∙◌, arith, eqb, inl, inr, replicate}
+use Rattle.std.proofs.Common.{◌≡◌, ℕ, suc, ◌+◌, ◌*◌, ◌<◌, Bool, true, false, List, [], ◌∷◌, Option, Some, None, refl, sym, ap, subst, ◌∙◌, arith, eqb, inl, inr, replicate}
 use Rattle.std.specs.List.{list_any, slice_index_or}
-use Rattle.std.proofs.lemmas.Bool.{cases_Bool, cases_lt, eqb-true, ne_eqb}
+use Rattle.std.proofs.lemmas.Bool.{cases_Bool, cases_lt, and_parts, eqb-true, ne_eqb}
 use Rattle.std.proofs.lemmas.List.{get_or-replicate, get_or_past, length-replicate}
 use Rattle.std.proofs.Math.Path.{fun_ext}
 use Rattle.heap_model.specs.declared.Limits.{Limits}
@@ -9,14 +9,14 @@ use Rattle.heap_model.specs.declared.Opening.{Opening}
 use Rattle.heap_model.specs.Buckets.{bucket_of}
 use Rattle.heap_model.specs.Geometry.{units_of}
 use Rattle.heap_model.specs.Runs.{Run}
-use Rattle.heap_model.specs.State.{State, Span, Place, VsPart, has_address, insert_place, insert_span, by_address, change_found, remove_found, updated, opening}
-use Rattle.heap_model.specs.Ranges.{vs_spans, taken_of}
+use Rattle.heap_model.specs.State.{Span, Place, VsPart, has_address, is_live_at, insert_place, insert_span, by_address, change_found, remove_found, updated, opening}
+use Rattle.heap_model.specs.Ranges.{taken_of}
 use Rattle.heap_model.specs.Search.{begins_at}
 use Rattle.heap_model.specs.Legal.{resize_place, serve}
 use Rattle.heap_model.specs.Layers.{StandsForVs, header_key, sorted_vs}
 use Rattle.serial_laws.proofs.Sorted.{OnlyOne, removed_sorted, changed_sorted}
 use Rattle.vs_headers.specs.declared.Head.{Head}
-use Rattle.vs_layer.specs.Kept.{VsKept, vs_span, places_from, places_of, part_of, block_in, place_for, block_at, reach_of}
+use Rattle.vs_layer.specs.Kept.{VsKept, vs_span, place_of, places_from, places_of, part_of, block_in, place_for, block_at, reach_of}
 use Rattle.vs_layer.specs.Effects.{nothing_kept, HasPlaced, HasDropped, HasResized, IsClosed}
 use Rattle.vs_layer.specs.Standing.{layer_of, Becomes, with_block, without_block, with_length, with_active, without_closed}
 use Rattle.vs_layer.proofs.Opening.{places_none}
@@ -37,6 +37,34 @@ one_from a g (None ∷ hs) = one_from a (suc g) hs
 one_from a g (Some h ∷ hs) = elim (cases_Bool h.busy) [
   | inl e ↦ rw e ((λ t. none_from a (suc g) hs (omega (arith, eqb-true (16 * g + 16) a t))), one_from a (suc g) hs)
   | inr e ↦ rw e (one_from a (suc g) hs)
+]
+
+-- each block is live
+live_none : (a g : ℕ) (hs : List (Option Head)) → a < 16 * g + 16 → list_any (is_live_at a) (places_from g hs) ≡ false
+live_none a g [] l = refl
+live_none a g (None ∷ hs) l = live_none a (suc g) hs (omega arith)
+live_none a g (Some h ∷ hs) l = elim (cases_Bool h.busy) [
+  | inl e ↦ let d = ne_eqb (16 * g + 16) a (λ k. omega (arith, k, l)) in rw (e, d) (live_none a (suc g) hs (omega arith))
+  | inr e ↦ rw e (live_none a (suc g) hs (omega arith))
+]
+
+live_one : (a g : ℕ) (hs : List (Option Head)) → OnlyOne (is_live_at a) (places_from g hs)
+live_one a g [] = tt
+live_one a g (None ∷ hs) = live_one a (suc g) hs
+live_one a g (Some h ∷ hs) = elim (cases_Bool h.busy) [
+  | inl e ↦ rw e ((λ t. live_none a (suc g) hs (omega (arith, eqb-true (16 * g + 16) a (and_parts (eqb (16 * g + 16) a) true t).0))), live_one a (suc g) hs)
+  | inr e ↦ rw e (live_one a (suc g) hs)
+]
+
+live_changed : (a g : ℕ) (f : Place → Place) (hs : List (Option Head)) → change_found (has_address a) f (places_from g hs) ≡ change_found (is_live_at a) f (places_from g hs)
+live_changed a g f [] = refl
+live_changed a g f (None ∷ hs) = live_changed a (suc g) f hs
+live_changed a g f (Some h ∷ hs) = elim (cases_Bool h.busy) [
+  | inl e ↦ elim (cases_Bool (eqb (16 * g + 16) a)) [
+    | inl d ↦ rw (e, d) refl
+    | inr d ↦ rw (e, d) (ap (λ (ps : List Place). place_of g h ∷ ps) (live_changed a (suc g) f hs))
+  ]
+  | inr e ↦ rw e (live_changed a (suc g) f hs)
 ]
 
 ---- It is enough to speak of what the lock guards
@@ -93,10 +121,14 @@ module _ (old new : VsKept) (limits : new.limits ≡ old.limits) where
     removed : (a : ℕ) → remove_found (has_address a) (places_of old) ≡ by_address (remove_found (has_address a) v.places)
     removed a = ap (remove_found (has_address a)) places_are ∙ sym (removed_sorted (has_address a) v.places (only a))
 
-    changed : (a granules n : ℕ) → change_found (has_address a) (resize_place granules n) (places_of old) ≡ by_address (change_found (has_address a) (resize_place granules n) v.places)
+    only_live : (a : ℕ) → OnlyOne (is_live_at a) (by_address v.places)
+    only_live a = subst (OnlyOne (is_live_at a)) places_are (live_one a 0 old.chunks.heads)
+
+    changed : (a granules n : ℕ) → change_found (has_address a) (resize_place granules n) (places_of old) ≡ by_address (change_found (is_live_at a) (resize_place granules n) v.places)
     changed a granules n =
-        ap (change_found (has_address a) (resize_place granules n)) places_are
-        ∙ sym (changed_sorted (has_address a) (resize_place granules n) (λ (p : Place). refl) v.places (only a))
+        live_changed a 0 (resize_place granules n) old.chunks.heads
+        ∙ ap (change_found (is_live_at a) (resize_place granules n)) places_are
+        ∙ sym (changed_sorted (is_live_at a) (resize_place granules n) (λ (p : Place). refl) v.places (only_live a))
 
   pub adds : (first pages : ℕ) → new.spans ≡ insert_span (vs_span first pages) old.spans → places_of new ≡ places_of old → (part_of new).active ≡ (part_of old).active → (part_of new).served ≡ (part_of old).served
       → new.chunks.key ≡ old.chunks.key → Becomes old new (λ v. v) (insert_span (vs_span first pages))

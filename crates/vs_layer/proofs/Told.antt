@@ -1,10 +1,10 @@
 -- What the variable-size layer tells of each state that it stands for.
-use Rattle.std.proofs.Common.{◌≡◌, ℕ, Bool, ◌||◌, List, refl, sym, ap, subst, ◌∙◌, leb, count_by}
+use Rattle.std.proofs.Common.{◌≡◌, ℕ, ◌||◌, List, sym, ap, subst, ◌∙◌, leb, count_by}
 use Rattle.std.specs.List.{find}
 use Rattle.heap_model.specs.declared.Opening.{Opening}
 use Rattle.heap_model.specs.Geometry.{units_of}
 use Rattle.heap_model.specs.Runs.{Run}
-use Rattle.heap_model.specs.Ranges.{gaps, gaps_of, vs_spans, vs_place}
+use Rattle.heap_model.specs.Ranges.{gaps, gaps_of, vs_place}
 use Rattle.heap_model.specs.State.{State, Span, Place, VsPart, has_address, by_address}
 use Rattle.heap_model.specs.Stay.{is_due, is_live_in}
 use Rattle.heap_model.specs.Layers.{StandsForVs}

@@ -4,7 +4,7 @@ use Rattle.heap_model.specs.declared.Opening.{Opening}
 use Rattle.heap_model.specs.declared.What.TheVariants as whats
 use Rattle.heap_model.specs.Buckets.{bucket_of}
 use Rattle.heap_model.specs.Runs.{Run}
-use Rattle.heap_model.specs.State.{State, Span, VsPart, has_address, change_found, remove_found, updated, opening}
+use Rattle.heap_model.specs.State.{State, Span, VsPart, has_address, is_live_at, change_found, remove_found, updated, opening}
 use Rattle.heap_model.specs.Ranges.{vs_spans}
 use Rattle.heap_model.specs.Search.{begins_at}
 use Rattle.heap_model.specs.Legal.{serve, resize_place}
@@ -30,7 +30,7 @@ without_block v addr = record { places = remove_found (has_address addr) v.place
 
 -- with so many granules and bytes in the block at an address
 abbrev pub with_length : VsPart → ℕ → ℕ → ℕ → VsPart
-with_length v addr granules n = record { places = change_found (has_address addr) (resize_place granules n) v.places; active = v.active; served = v.served }
+with_length v addr granules n = record { places = change_found (is_live_at addr) (resize_place granules n) v.places; active = v.active; served = v.served }
 
 abbrev pub with_active : VsPart → ℕ → VsPart
 with_active v bucket = record { places = v.places; active = updated v.active bucket true; served = v.served }

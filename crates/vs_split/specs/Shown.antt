@@ -1,5 +1,5 @@
 -- The chunks of a heap, by its definitions: each place and each gap of the variable-size layer is one.
-use Rattle.std.specs.Prelude.{ℕ, ◌+◌, ◌-◌, ◌*◌, ◌/◌, ◌==◌, Bool, true, false, List, Option, Some, None, option_map, unwrap_or}
+use Rattle.std.specs.Prelude.{ℕ, ◌+◌, ◌-◌, ◌*◌, ◌/◌, ◌==◌, Bool, true, false, List, Option, option_map, unwrap_or}
 use Rattle.std.specs.List.{find}
 use Rattle.std.specs.Option.{option_map_or, option_or}
 use Rattle.heap_model.specs.Runs.{Run}

@@ -11,7 +11,7 @@ mod table;
 #[cfg(test)]
 mod tests;
 
-ghost use Rattle.std.specs.Prelude.{◌≡◌, ◌+◌, ◌-◌, ◌*◌, ◌/◌, ◌%◌, ◌≤◌, ◌<◌, Some, None, IfOk, replicate};
+ghost use Rattle.std.specs.Prelude.{◌≡◌, ◌+◌, ◌-◌, ◌*◌, ◌/◌, ◌%◌, ◌<◌, Some, None, IfOk, replicate};
 ghost use Rattle.heap_model.specs.Limits.{AreValid};
 ghost use Rattle.vs_headers.specs.declared.Head.{Head};
 ghost use Rattle.vs_split.specs.Chunks.{head_at, chunk_at, word_at, with_head, gap, split_chunk, joined_chunk};

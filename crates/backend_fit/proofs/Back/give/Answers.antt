@@ -1,10 +1,7 @@
 use Rattle.backend_fit.specs.Pages.{Pages, pages_area}
 use Rattle.backend_fit.proofs.Freed.{shown_inside, shown_run, shown_area, shown_taken}
-use Rattle.std.proofs.Common.{◌≡◌, sym, ap, subst}
-use Rattle.page_region.specs.Held.{Held}
-use Rattle.heap_model.specs.State.{BackPart}
-use Rattle.backend_fit.specs.Kept.{Kept, pages_in, area_of, spans_of, Becomes}
-use Rattle.backend_fit.specs.Effects.{part_without}
+use Rattle.std.proofs.Common.{ap, subst}
+use Rattle.backend_fit.specs.Kept.{Kept, pages_in}
 use Rattle.backend_fit.specs.Sound.{IsSound}
 use Rattle.backend_fit.proofs.Sounds.{pages_sound}
 use Rattle.backend_fit.proofs.Standing.{gives}

@@ -1,5 +1,4 @@
-use Rattle.std.proofs.Common.{◌≡◌, [], refl, ap, ◌∙◌}
-use Rattle.page_region.specs.Held.{Held}
+use Rattle.std.proofs.Common.{◌≡◌, [], refl}
 use Rattle.backend_fit.specs.Pages.{pages_area, taken_in}
 use Rattle.backend_fit.specs.Kept.{Kept}
 use Rattle.backend_fit.proofs.Fresh.{fresh_sound, fresh_area, fresh_taken}

@@ -1,6 +1,5 @@
-use Rattle.std.proofs.Common.{◌≡◌, sym, ap, subst, ◌∙◌}
+use Rattle.std.proofs.Common.{◌≡◌, ap, subst, ◌∙◌}
 use Rattle.heap_model.specs.State.{Area}
-use Rattle.heap_model.specs.declared.Run.{Run}
 use Rattle.heap_model.specs.Legal.{with_span}
 use Rattle.backend_fit.specs.Effects.{with_segment, marked_run, marked_span, insert_run}
 use Rattle.backend_fit.specs.Kept.{Kept, area_of, spans_of}

@@ -1,5 +1,3 @@
-use Rattle.std.proofs.Common.{ℕ, ◌*◌, ◌∙◌, List, length, sym, ap}
-use Rattle.page_region.specs.Held.{Held}
 use Rattle.heap_now.proofs.Closing.{no_rows, closes, tells, can_be_read}
 use Rattle.heap_now.proofs.Solo.close.Goals as goal
 

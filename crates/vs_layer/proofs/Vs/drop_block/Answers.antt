@@ -1,5 +1,5 @@
 -- The block that is dropped becomes free with the gaps beside it; its span is closed where that is all of it.
-use Rattle.std.proofs.Common.{◌≡◌, ℕ, ◌-◌, ◌/◌, Vec, inl, inr, not, is_some, length, Some, None, refl, sym, ap, subst, ◌∙◌, arith}
+use Rattle.std.proofs.Common.{◌≡◌, ℕ, ◌-◌, ◌/◌, Vec, inl, inr, not, is_some, length, None, refl, sym, ap, subst, ◌∙◌, arith}
 use Rattle.std.proofs.lemmas.List.{get_or_default}
 use Rattle.vs_split.specs.Chunks.{chunk_at}
 use Rattle.vs_layer.specs.Kept.{VsKept}

@@ -1,7 +1,5 @@
 use Rattle.std.proofs.Common.{◌≡◌, ◌*◌, [], replicate, false, rules, refl, ap, ◌∙◌}
 use Rattle.vs_split.specs.Chunks.{Chunks}
-use Rattle.vs_layer.specs.Kept.{VsKept}
-use Rattle.vs_layer.specs.Effects.{nothing_kept}
 use Rattle.vs_layer.specs.Sound.{spans_from}
 use Rattle.vs_layer.proofs.Opening.{opening_sound}
 use Rattle.vs_layer.proofs.Spans.{spans_none}
