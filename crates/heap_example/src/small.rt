@@ -1,5 +1,5 @@
 // Small blocks, from the variable-size layer.
-ghost use Rattle.std.specs.Prelude.{◌≡◌, ◌≤◌, None, option_and_then, IfSome, IfNone, is_some};
+ghost use Rattle.std.specs.Prelude.{◌≡◌, ◌≤◌, None, option_and_then, IfSome, IfNone};
 ghost use Rattle.heap_model.specs.State.{live_size};
 ghost use Rattle.vs_layer.specs.Kept.{block_at, place_for};
 ghost use Rattle.vs_layer.specs.Effects.{HasPlaced, HasDropped};

@@ -1,5 +1,5 @@
 // Worked calls: a legal history of each shape, and one that breaks at the entry that may not come.
-ghost use Rattle.std.specs.Prelude.{◌≡◌, ◌++◌, [], ◌∷◌, true, map};
+ghost use Rattle.std.specs.Prelude.{◌≡◌, ◌++◌, [], true, map};
 ghost use Rattle.heap_model.specs.declared.Call.TheVariants as calls;
 ghost use Rattle.heap_model.specs.declared.Reply.TheVariants as replies;
 ghost use Rattle.heap_model.specs.declared.Layer.TheVariants as layers;
@@ -11,7 +11,7 @@ ghost use Rattle.heap_model.specs.Served.{GetsReply, AreServed};
 ghost use Rattle.heap_model.specs.Shape.{Replied, WasBusy};
 ghost use Rattle.serial_laws.specs.BackCalls.{plain};
 ghost use Rattle.heap_laws.specs.Worked.{one};
-ghost use Rattle.heap_laws.specs.WorkedCalls.{IsWorked, BreaksAtLast, call_by, zeroed, in_place, roomy, places_zeroed, with_block, zeroes_beyond, with_words, puts_last, puts_for_another_size, gets_last, gets_invented, looks_past, finds_none, denies_block, grows_zeroed, grows_too_long, with_neighbour, finds_no_room, moves_words, loads_another, denies_range, with_large, grows_nowhere, denies_room, locks, walks, unlocks, drawn_by_two, with_front, shrinks, grows_again, grows_too_far, moves_out, drops_live, fits_nowhere, keeps_in_hand, waits_for_another, waits_for_nobody, frees_front, compacts_front, compacts_used, asked_under_lock, answered_under_lock, steps_under_lock};
+ghost use Rattle.heap_laws.specs.WorkedCalls.{IsWorked, BreaksAtLast, call_by, zeroed, in_place, roomy, places_zeroed, zeroes_beyond, with_words, puts_last, puts_for_another_size, gets_last, gets_invented, looks_past, finds_none, denies_block, grows_zeroed, grows_too_long, with_neighbour, finds_no_room, moves_words, loads_another, denies_range, with_large, grows_nowhere, denies_room, locks, walks, unlocks, drawn_by_two, with_front, shrinks, grows_again, grows_too_far, moves_out, drops_live, fits_nowhere, keeps_in_hand, waits_for_another, waits_for_nobody, frees_front, compacts_front, compacts_used, asked_under_lock, answered_under_lock, steps_under_lock};
 
 /// A block whose words are zeroed before it is live.
 pub fn zeroed_allocation()

@@ -1,6 +1,5 @@
 -- The image of a heap can be read, and its blocks are the live ones.
 use Rattle.std.proofs.Common.{◌≡◌, ℕ, suc, Bool, true, false, List, [], ◌∷◌, ◌++◌, Option, Some, None, refl, sym, ap, subst, ◌∙◌, cond}
-use Rattle.std.specs.List.{AllByRecursion}
 use Rattle.heap_model.specs.State.{State, Place, is_live, live, by_address}
 use Rattle.heap_model.specs.CallState.{Configuration}
 use Rattle.heap_model.specs.History.{configuration_of}

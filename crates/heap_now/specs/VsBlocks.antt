@@ -1,7 +1,6 @@
 -- Blocks of the variable-size layer: what an allocation, a free and a question for the size do with it and the back end under it.
 use Rattle.std.specs.Prelude.{◌≡◌, ◌⊎◌, ℕ, ◌*◌, Bool, true, false, length, Option, Some, None}
 use Rattle.std.specs.List.{AllByRecursion}
-use Rattle.heap_model.specs.declared.Kind.TheVariants as kinds
 use Rattle.heap_model.specs.declared.Reply.{Reply}
 use Rattle.heap_model.specs.declared.Reply.TheVariants as replies
 use Rattle.heap_model.specs.declared.Run.{Run}

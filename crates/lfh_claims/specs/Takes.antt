@@ -1,6 +1,5 @@
 -- What a search of the low-fragmentation front end takes.
 use Rattle.std.specs.Prelude.{◌≡◌, ℕ, ◌∷◌, List, Option, Some, None, option_map, unwrap_or, filter}
-use Rattle.heap_model.specs.declared.Kind.TheVariants as kinds
 use Rattle.heap_model.specs.declared.Run.{Run}
 use Rattle.heap_model.specs.Marks.{lfh_mark}
 use Rattle.heap_model.specs.Buckets.{bucket_pages, block_address}

@@ -18,7 +18,7 @@ ghost use Rattle.std.specs.Prelude.{◌≡◌, ◌+◌, ◌*◌, ◌<◌, false,
 ghost use Rattle.std.specs.FinSet as set;
 ghost use Rattle.vs_free_tree.specs.Gaps.{NoneFits, IsBest};
 ghost use Rattle.vs_free_tree.specs.Index.{empty_tree, node_at, root_height, IsTreeOfGaps, DifferInAtMost};
-ghost use Rattle.vs_free_tree.specs.Kept.{number_seen, seen};
+ghost use Rattle.vs_free_tree.specs.Kept.{number_seen};
 
 use heap_model::OutOfMemory;
 use removal::take_out;

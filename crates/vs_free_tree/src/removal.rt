@@ -1,5 +1,4 @@
 //! How a pair is taken out of the tree.
-ghost use Rattle.std.specs.Prelude.{◌≡◌};
 ghost use Rattle.vs_free_tree.specs.Slots.{CanTakeLeast, IsLeastTaken, CanMerge, IsMerged, CanTakeOut, IsTakenOut};
 
 use crate::tree::{NONE, Slot, comes_before, join};

@@ -1,5 +1,5 @@
 // The index of the gaps, as the layer sees it: a set, whatever tree holds it.
-ghost use Rattle.std.specs.Prelude.{◌≡◌, ◌+◌, ◌<◌, false, IfOk, MatchOption};
+ghost use Rattle.std.specs.Prelude.{◌≡◌, ◌<◌, false, IfOk, MatchOption};
 ghost use Rattle.std.specs.FinSet as set;
 ghost use Rattle.vs_free_tree.specs.Gaps.{empty_index, NoneFits, IsBest};
 

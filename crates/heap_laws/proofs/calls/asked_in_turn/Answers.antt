@@ -1,6 +1,5 @@
 use Rattle.std.proofs.Common.{refl, List, [], ◌∷◌, take, drop}
 use Rattle.heap_model.specs.declared.Reply.TheVariants as replies
-use Rattle.heap_model.specs.declared.Layer.TheVariants as layers
 use Rattle.heap_model.specs.History.{configuration_of}
 use Rattle.heap_model.specs.Moments.{Moment, moments_by}
 use Rattle.heap_laws.specs.Worked.{one}
