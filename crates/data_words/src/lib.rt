@@ -4,7 +4,6 @@
 #![tactic(auto)]
 
 mod steps;
-
 #[cfg(test)]
 mod tests;
 
@@ -32,8 +31,7 @@ pub fn load<T: Stands>(heap: &Heap<T>, c: &mut Caller<T>, word: u64) -> u64
 {
     let limits = heap.limits();
     let at = (data_from(&limits) + word) as usize;
-    let value =
-        load_by::<T, Brand, Brand>(&heap.table.shared, &mut c.place, &c.prepared, word, at);
+    let value = load_by::<T, Brand, Brand>(&heap.table.shared, &mut c.place, &c.prepared, word, at);
     c.prepared.clear();
     c.pending = false;
     value

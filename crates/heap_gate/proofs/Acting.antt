@@ -127,7 +127,7 @@ module _ {T : Type 0} (z : TableId) (me : Me (Option T) View) (f : Face) (slot :
         pub missing : Acted z me f slot stream h me' z' left (entry f.number (acts.Blocked whats.Gate word) ∷ []) (as_was z me f slot stream h) me.0.owes
         missing = acted_once z me f slot stream h w me' (acts.Blocked whats.Gate word) go slots owes (λ k. refl) f.fresh f.locked f.inside f.depth
             (λ s m a. subst (λ (b : Bool). IsAt (after s m (entry f.number (acts.Blocked whats.Gate word))) f.number f.call f.fresh b f.depth (outs me.1) true f.free) (sym out)
-                (at_gate_taken s m f.number f.call f.fresh f.depth (outs me.1) f.whole f.free word call is locks (at_outside s m a)))
+            (at_gate_taken s m f.number f.call f.fresh f.depth (outs me.1) f.whole f.free word call is locks (at_outside s m a)))
             h.even.rests h.even.drawn z' left ez le
 
         pub has_missed : HasMissedGate (tok z me f) (tok z' me' (faced z me f slot stream h (as_was z me f slot stream h) left)) (stance (tok z me f)) whats.Gate word (entry f.number (acts.Blocked whats.Gate word) ∷ [])

@@ -74,8 +74,7 @@ module _ (h : HeapToken) (old new : Token) (i : Bool) (k : IsSettled h old i) wh
   pub has_entered : HasEntered old new (stance (begun_with old calls.Stay)) (begins old calls.Stay ++ entry old.number acts.Enter ∷ []) → IsSettled h new true × (new.depth ≡ old.depth) × GoesOn old new 1 0
   has_entered x =
       let d = subst (λ (b : List Entry). Does old new (b ++ entry old.number acts.Enter ∷ [])) (begins_is calls.Stay) x.runs.does in
-      let r = rested calls.Stay old.pending in
-      (
+      let r = rested calls.Stay old.pending in (
         settled (begins old calls.Stay ++ entry old.number acts.Enter ∷ []) true (record (stance (begun_with old calls.Stay)) { fresh = false; inside = true }) (record { inside = refl; out = r.out; free = r.free; searched = r.searched; drawn = r.drawn }) x.runs.does x.stands,
         x.stands.depth ∙ depth_is calls.Stay,
         goes_on old new (entry old.number (acts.Begin calls.Stay) ∷ entry old.number acts.Enter ∷ []) k.prepared d,
@@ -86,8 +85,7 @@ module _ (h : HeapToken) (old new : Token) (i : Bool) (k : IsSettled h old i) wh
   has_turned out what word x =
       let es : List Entry = entry old.number (acts.Begin calls.Stay) ∷ entry old.number (acts.Blocked whats.Gate word) ∷ entry old.number acts.Leave ∷ [] in
       let d = subst (λ (b : List Entry). Does old new (b ++ entry old.number (acts.Blocked whats.Gate word) ∷ entry old.number acts.Leave ∷ [])) (begins_is calls.Stay) x.runs.does in
-      let r = rested calls.Stay old.pending in
-      (
+      let r = rested calls.Stay old.pending in (
         settled es false (record (stance (begun_with old calls.Stay)) { fresh = false }) (record { inside = r.inside ∙ out; out = r.out; free = r.free; searched = r.searched; drawn = r.drawn }) d x.stands,
         x.stands.depth ∙ depth_is calls.Stay,
         goes_on old new es k.prepared d,
@@ -95,8 +93,7 @@ module _ (h : HeapToken) (old new : Token) (i : Bool) (k : IsSettled h old i) wh
 
   pub has_left : HasLeft old new (entry old.number acts.Leave ∷ []) → IsSettled h new false × (new.depth ≡ old.depth) × GoesOn old new 0 0
   has_left x =
-      let es : List Entry = entry old.number acts.Leave ∷ [] in
-      (
+      let es : List Entry = entry old.number acts.Leave ∷ [] in (
         settled es false (record (stance old) { inside = false }) (record { inside = refl; out = k.out; free = k.free; searched = k.searched; drawn = k.drawn }) x.runs.does x.stands,
         x.stands.depth,
         goes_on old new es k.prepared x.runs.does,
@@ -130,8 +127,7 @@ module _ (h : HeapToken) (old new : Token) (i : Bool) (k : IsSettled h old i) wh
       let f = x.first e in
       let es : List Entry = entry old.number (acts.Begin calls.Lock) ∷ entry old.number acts.Lock ∷ [] in
       let d = subst (λ (b : List Entry). Does old new (b ++ entry old.number acts.Lock ∷ [])) (begins_is calls.Lock) f.reveals.does in
-      let r = rested calls.Lock old.pending in
-      (
+      let r = rested calls.Lock old.pending in (
         settled es false (record (stance (begun_with old calls.Lock)) { locked = true; depth = 1 }) (record { inside = r.inside ∙ out; out = r.out; free = r.free; searched = r.searched; drawn = r.drawn }) d f.stands,
         f.stands.depth,
         goes_on old new es k.prepared d,
@@ -144,8 +140,7 @@ module _ (h : HeapToken) (old new : Token) (i : Bool) (k : IsSettled h old i) wh
   has_missed b out x =
       let es : List Entry = entry old.number (acts.Begin calls.Lock) ∷ entry old.number (acts.Blocked whats.Gate b.word) ∷ [] in
       let d = subst (λ (l : List Entry). Does old new (l ++ entry old.number (acts.Blocked whats.Gate b.word) ∷ [])) (begins_is calls.Lock) x.1.runs.does in
-      let r = rested calls.Lock old.pending in
-      (
+      let r = rested calls.Lock old.pending in (
         settled es false (stance (begun_with old calls.Lock)) (record { inside = r.inside ∙ out; out = r.out; free = r.free; searched = r.searched; drawn = r.drawn }) d x.1.stands,
         x.1.stands.depth ∙ depth_is calls.Lock,
         goes_on old new es k.prepared d,

@@ -71,7 +71,7 @@ module _ {T : Type 0} (z : TableId) (me : Me (Option T) View) (f : Face) (slot :
       out_is = ap outs slots;
       at = at_behind z me f slot stream h me'.0 (two f.number (acts.NotLive addr) acts.Leave) (two_by f.number (acts.NotLive addr) acts.Leave) go (λ m. IsAt m f.number f.call f.fresh false f.depth (outs me.1) true f.free)
           (λ s m a. at_leave s (after s m (entry f.number (acts.NotLive addr))) f.number f.call f.fresh f.depth (outs me.1) true f.free
-              (subst (λ (b : Bool). IsAt (after s m (entry f.number (acts.NotLive addr))) f.number f.call f.fresh b f.depth (outs me.1) true f.free) in_is (at_denied s m a)));
+          (subst (λ (b : Bool). IsAt (after s m (entry f.number (acts.NotLive addr))) f.number f.call f.fresh b f.depth (outs me.1) true f.free) in_is (at_denied s m a)));
       marks_are = refl;
       made_is = refl;
       rests = λ _. free;
@@ -94,7 +94,7 @@ module _ {T : Type 0} (z : TableId) (me : Me (Option T) View) (f : Face) (slot :
       out_is = rest;
       at = at_behind z me f slot stream h me'.0 (two f.number (acts.NotLive addr) (acts.GiveLock what)) (two_by f.number (acts.NotLive addr) (acts.GiveLock what)) go (λ m. IsAt m f.number f.call f.fresh f.inside f.depth more true f.free)
           (λ s m a. at_given s (after s m (entry f.number (acts.NotLive addr))) f.number f.call f.fresh f.inside f.depth more true f.free what has once
-              (subst (λ (o : List ℕ). IsAt (after s m (entry f.number (acts.NotLive addr))) f.number f.call f.fresh f.inside f.depth o true f.free) out (at_denied s m a)));
+          (subst (λ (o : List ℕ). IsAt (after s m (entry f.number (acts.NotLive addr))) f.number f.call f.fresh f.inside f.depth o true f.free) out (at_denied s m a)));
       marks_are = refl;
       made_is = refl;
       rests = h.even.rests;

@@ -99,7 +99,6 @@ only_begin s m n act l e h = let q = and_parts (Rattle.heap_model.specs.Agreemen
     go (acts.Load w v) q r = absurd (false≢true q)
     go (acts.Store w v) q r = absurd (false≢true (and_parts (Rattle.heap_model.specs.Agreement.is_stable m n (acts.Store w v)) false q).1)
 
-
 -- a prepared entry that leaves something in hand is of a caller inside
 pub no_hand : (s : Setting) (m : Configuration) (n : ℕ) (act : Act) (free : Bool) → may_prepare s m n act ≡ true → is_entered m.state.gate n ≡ false → free ≡ true → is_free_with free act ≡ true
 no_hand s m n act free h out e = go act (row_of s m (entry n act) (and_parts _ (may_follow s m (entry n act)) h).1)

@@ -12,8 +12,8 @@ ghost use Rattle.look_steps.specs.Denials.{MayDeny};
 ghost use Rattle.heap_gate.specs.Token.{Always, now, IsStanding, IsEven};
 ghost use Rattle.heap_gate.specs.Calls.{begins, begun_with, stance, may_enter_by, HasEntered, HasTurnedBack, HasLeft};
 
-use crate::heap::Heap;
 use crate::entries::begin_if_none;
+use crate::heap::Heap;
 use crate::steps::{Prepared, deny_leave_by, enter_as, leave_as};
 use heap_model::{Busy, Call, Stands, What};
 use rand_pcg::Pcg32;

@@ -18,10 +18,7 @@ pub struct Closed<T: Stands> {
 }
 
 // The words of a closed table, in a list that has room for them.
-pub(crate) fn copied<S>(
-    closed: &atomic_table::Closed<Option<S>, Global>,
-    mut words: Words,
-) -> Words
+pub(crate) fn copied<S>(closed: &atomic_table::Closed<Option<S>, Global>, mut words: Words) -> Words
     requires full { IsFull closed.now.words }
     requires many { length (slots_items closed.now.words) ≡ slots_len closed.now.words }
     requires room { length words ≡ slots_len closed.now.words }

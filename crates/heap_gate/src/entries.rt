@@ -45,7 +45,10 @@ fn unset_by_begin(flag: bool, act: Act) -> bool
 fn ends(act: Act) -> bool
     ensures { result ≡ is_whole_with act }
 {
-    !matches!(act, Act::Reserve { .. } | Act::Span { .. } | Act::Drop { .. })
+    !matches!(
+        act,
+        Act::Reserve { .. } | Act::Span { .. } | Act::Drop { .. }
+    )
 }
 
 // Whether nothing is in hand, with one entry more.

@@ -11,8 +11,8 @@ ghost use Rattle.claim_rule.specs.Entries.{entry};
 ghost use Rattle.heap_gate.specs.Calls.{begins, begun_with, begins_unlock, begun_unlock, is_compacting, stance, HasLocked, HasMissedGate, HasUnlocked, IsDeeper, IsRefusedLock, IsShallower};
 
 use crate::caller::Caller;
-use crate::heap::Heap;
 use crate::entries::{begin, begin_if_none};
+use crate::heap::Heap;
 use crate::steps::{lock_as, unlock_as};
 use heap_model::{Busy, Call, LockNo, NotOwner, Stands, What};
 use std::marker::Brand;

@@ -7,20 +7,20 @@
 
 mod caller;
 mod closed;
+mod entries;
 mod heap;
 mod heap_lock;
 mod locks;
-mod entries;
 mod root;
 mod seats;
 mod steps;
 
 pub use caller::{Caller, enter_now, leave, leave_denying};
 pub use closed::Closed;
+pub use entries::{begin, prepare, rest, settle};
 pub use heap::Heap;
 pub use heap_lock::{lock_gate, unlock_gate};
 pub use locks::{give_lock, give_lock_denying, take_lock};
-pub use entries::{begin, prepare, rest, settle};
 pub use root::{Root, close_table, join, make_caller, meet, open};
 pub use steps::{Prepared, Slip};
 

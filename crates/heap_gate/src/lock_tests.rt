@@ -46,7 +46,15 @@ fn unused(lock: What) -> Counter
 // A heap with its two callers.
 fn two(
     alloc: Global,
-) -> Result<(Heap<Counter>, Root<Counter>, Caller<Counter>, Caller<Counter>), OutOfMemory>
+) -> Result<
+    (
+        Heap<Counter>,
+        Root<Counter>,
+        Caller<Counter>,
+        Caller<Counter>,
+    ),
+    OutOfMemory,
+>
     ensures { IfOk result (λ r. AreTwo r.0 r.1 r.2 r.3 × (r.2.seen ≡ []) × (r.3.seen ≡ [])) }
 {
     let (heap, mut root) = open(
@@ -99,13 +107,7 @@ fn turn(heap: &Heap<Counter>, c: &mut Caller<Counter>, what: What, inside: bool)
 }
 
 // Has this many turns at a lock behind it.
-fn turn_once(
-    rt: &impl Abort,
-    heap: &Heap<Counter>,
-    c: &mut Caller<Counter>,
-    what: What,
-    turns: u64,
-)
+fn turn_once(rt: &impl Abort, heap: &Heap<Counter>, c: &mut Caller<Counter>, what: What, turns: u64)
     requires settled { IsSettled heap.now c.old true }
     requires slot { HasSlot what }
     ensures settled { IsSettled heap.now c.new true × (c.new.depth ≡ c.old.depth) × (c.new.number ≡ c.old.number) }
@@ -127,7 +129,10 @@ fn end(
     join(&heap, &mut root, a);
     join(&heap, &mut root, b);
     let closed = close_table(heap, root);
-    assert_eq!(rt; [closed.vs.turns, closed.back.turns, closed.large.turns], turns);
+    assert_eq!(rt;
+        [closed.vs.turns, closed.back.turns, closed.large.turns],
+        turns
+    );
     for lock in LOCKS..LOCKS + 4 {
         assert_eq!(rt; closed.words.at(lock as u64), 0);
     }

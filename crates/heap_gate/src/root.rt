@@ -50,12 +50,7 @@ fn words_of(limits: &Limits) -> usize
 }
 
 // The slots of a new table.
-fn slots_of<T: Drop>(
-    alloc: Global,
-    vs: T,
-    back: T,
-    large: T,
-) -> Result<Vec<Option<T>>, OutOfMemory>
+fn slots_of<T: Drop>(alloc: Global, vs: T, back: T, large: T) -> Result<Vec<Option<T>>, OutOfMemory>
     ensures { IfOk result (λ slots. slots.items ≡ Some vs ∷ Some back ∷ Some large ∷ []) }
 {
     let mut slots = Vec::with_capacity(alloc, 3)?;

@@ -17,9 +17,7 @@ ghost use Rattle.lock_steps.specs.Locks.{IsPaid, MayTake, MayGiveBack, took};
 ghost use Rattle.claim_rule.specs.Places.{lock_at};
 
 use arrayvec::ArrayVec;
-use claim_rule::{
-    Carried, Enters, GATE, Leaves, Locks, Looks, MADE, Unlocks,
-};
+use claim_rule::{Carried, Enters, GATE, Leaves, Locks, Looks, MADE, Unlocks};
 use heap_model::{Act, Entry, Stands, What};
 use lock_steps::steps::{give_as, take_as};
 use look_steps::steps::{deny_give_as, deny_leave_as};

@@ -8,7 +8,6 @@ use Rattle.heap_model.specs.declared.Act.TheVariants as acts
 use Rattle.heap_model.specs.declared.What.TheVariants as whats
 use Rattle.heap_gate.specs.Token.{Token, IsAt, outs}
 use Rattle.heap_gate.specs.Seated.{Face, tok}
-
 use Rattle.claim_rule.specs.Steps.{MayGoOut}
 use Rattle.heap_gate.specs.Calls.{HasLeft}
 use Rattle.heap_gate.proofs.Standing.{out_of}
@@ -22,8 +21,8 @@ leave_as-requires-clause-may g c =
     let inside = ap (λ (t : Token). t.inside) v ∙ c.requires.inside in
     let free = ap (λ (t : Token). t.free) v ∙ c.requires.free in
     may_by z me f i.slot stream h MayGoOut (λ s q. out_of (ready_after s me.0 f.prepared) i.number i.call i.depth (outs me.1) i.fresh i.whole (ap (λ (t : Token). t.out) v ∙ c.requires.out)
-        (subst (λ (b : Bool). IsAt (ready_after s me.0 f.prepared) i.number i.call i.fresh true i.depth (outs me.1) i.whole b) free
-        (subst (λ (b : Bool). IsAt (ready_after s me.0 f.prepared) i.number i.call i.fresh b i.depth (outs me.1) i.whole i.free) inside (h.at s q))))
+    (subst (λ (b : Bool). IsAt (ready_after s me.0 f.prepared) i.number i.call i.fresh true i.depth (outs me.1) i.whole b) free
+    (subst (λ (b : Bool). IsAt (ready_after s me.0 f.prepared) i.number i.call i.fresh b i.depth (outs me.1) i.whole i.free) inside (h.at s q))))
 
 pub invariant_of-c : goal.invariant_of-c
 invariant_of-c g c =

@@ -8,7 +8,6 @@ use Rattle.heap_model.specs.declared.Act.TheVariants as acts
 use Rattle.heap_model.specs.declared.What.TheVariants as whats
 use Rattle.heap_gate.specs.Token.{Token, IsAt, outs}
 use Rattle.heap_gate.specs.Seated.{Face, tok}
-
 use Rattle.heap_model.specs.declared.Call.{Call}
 use Rattle.heap_model.specs.declared.Entry.{Entry}
 use Rattle.heap_model.specs.History.{configuration_of}
@@ -37,8 +36,8 @@ enter_as-word-requires-clause-may g c =
     let fresh = ap (λ (t : Token). t.fresh) v ∙ c.requires.fresh in
     let outside = ap (λ (t : Token). t.inside) v ∙ c.requires.outside in
     may_by z me f i.slot stream h MayPass (λ s q. pass_of (ready_after s me.0 f.prepared) i.number i.call i.depth (outs me.1) i.whole i.free c.requires.call.0 call c.requires.call.2
-        (subst (λ (b : Bool). IsAt (ready_after s me.0 f.prepared) i.number i.call true b i.depth (outs me.1) i.whole i.free) outside
-        (subst (λ (b : Bool). IsAt (ready_after s me.0 f.prepared) i.number i.call b i.inside i.depth (outs me.1) i.whole i.free) fresh (h.at s q))))
+    (subst (λ (b : Bool). IsAt (ready_after s me.0 f.prepared) i.number i.call true b i.depth (outs me.1) i.whole i.free) outside
+    (subst (λ (b : Bool). IsAt (ready_after s me.0 f.prepared) i.number i.call b i.inside i.depth (outs me.1) i.whole i.free) fresh (h.at s q))))
 
 pub invariant_of-c : goal.invariant_of-c
 invariant_of-c g c =

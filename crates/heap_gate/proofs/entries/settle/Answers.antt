@@ -8,7 +8,6 @@ use Rattle.heap_model.specs.declared.Act.TheVariants as acts
 use Rattle.heap_model.specs.declared.What.TheVariants as whats
 use Rattle.heap_gate.specs.Token.{Token, IsAt, outs}
 use Rattle.heap_gate.specs.Seated.{Face, tok}
-
 use Rattle.heap_gate.specs.Calls.{Runs, Stands, stance}
 use Rattle.heap_gate.proofs.Tokens.{as_was, faced, goes_by}
 use Rattle.heap_gate.proofs.Acting.{looking, looked_runs}

@@ -8,7 +8,6 @@ use Rattle.heap_model.specs.declared.Act.TheVariants as acts
 use Rattle.heap_model.specs.declared.What.TheVariants as whats
 use Rattle.heap_gate.specs.Token.{Token, IsAt, outs}
 use Rattle.heap_gate.specs.Seated.{Face, tok}
-
 use Rattle.claim_rule.specs.Steps.{MayGiveUp}
 use Rattle.heap_gate.specs.Calls.{HasUnlocked, stance}
 use Rattle.heap_gate.proofs.Standing.{give_up_of}
@@ -26,7 +25,7 @@ unlock_as-requires-clause-may g c =
     let i = c.c.inside in let f : Face = record { number = i.number; prepared = i.prepared.items; pending = i.pending; call = i.call; fresh = i.fresh; locked = i.locked; inside = i.inside; depth = i.depth; whole = i.whole; free = i.free; drawn = i.drawn } in let h = c.c.invariant in let z = i.place.table_id in let me = i.place.me in let stream = words_of i.draws in let v = c.c.view_is in
     let outside = ap (λ (t : Token). t.inside) v ∙ c.requires.outside in
     may_by z me f i.slot stream h MayGiveUp (λ s q. give_up_of (ready_after s me.0 f.prepared) i.number i.call i.depth (outs me.1) i.fresh i.whole i.free (ap (λ (t : Token). t.out) v ∙ c.requires.out) (ap (λ (t : Token). t.depth) v ∙ c.requires.owns)
-        (subst (λ (b : Bool). IsAt (ready_after s me.0 f.prepared) i.number i.call i.fresh b i.depth (outs me.1) i.whole i.free) outside (h.at s q)))
+    (subst (λ (b : Bool). IsAt (ready_after s me.0 f.prepared) i.number i.call i.fresh b i.depth (outs me.1) i.whole i.free) outside (h.at s q)))
 
 pub invariant_of-c : goal.invariant_of-c
 invariant_of-c g c =

@@ -8,7 +8,6 @@ use Rattle.heap_model.specs.declared.Act.TheVariants as acts
 use Rattle.heap_model.specs.declared.What.TheVariants as whats
 use Rattle.heap_gate.specs.Token.{Token, IsAt, outs}
 use Rattle.heap_gate.specs.Seated.{Face, tok}
-
 use Rattle.std.specs.Prelude.{not, ◌==◌}
 use Rattle.std.proofs.Common.{eq-eqb, ne_eqb}
 use Rattle.claim_rule.specs.Plays.{lock_act}
@@ -33,7 +32,7 @@ lock_as-word-requires-clause-may g c =
     let call = ap (λ (t : Token). t.call) v ∙ c.requires.call.1 in
     let outside = ap (λ (t : Token). t.inside) v ∙ c.requires.outside in
     may_by z me f i.slot stream h MayTryLock (λ s q. try_of (ready_after s me.0 f.prepared) i.number i.call i.depth (outs me.1) i.fresh i.whole i.free c.requires.call.0 call c.requires.call.2 (ap (λ (t : Token). t.depth) v ∙ c.requires.free)
-        (subst (λ (b : Bool). IsAt (ready_after s me.0 f.prepared) i.number i.call i.fresh b i.depth (outs me.1) i.whole i.free) outside (h.at s q)))
+    (subst (λ (b : Bool). IsAt (ready_after s me.0 f.prepared) i.number i.call i.fresh b i.depth (outs me.1) i.whole i.free) outside (h.at s q)))
 
 pub invariant_of-c : goal.invariant_of-c
 invariant_of-c g c =

@@ -8,7 +8,6 @@ use Rattle.heap_model.specs.declared.Act.TheVariants as acts
 use Rattle.heap_model.specs.declared.What.TheVariants as whats
 use Rattle.heap_gate.specs.Token.{Token, IsAt, outs}
 use Rattle.heap_gate.specs.Seated.{Face, tok}
-
 use Rattle.std.specs.Prelude.{not, ◌||◌, ◌==◌}
 use Rattle.heap_model.specs.declared.Opening.{Opening}
 use Rattle.heap_model.specs.Legal.{leaves_whole}

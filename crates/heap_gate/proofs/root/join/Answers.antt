@@ -17,8 +17,7 @@ no_outs (x ∷ xs) e = absurd (let no : ⊥ = cc in no)
 
 pub take_in-requires-clause-table : goal.take_in-requires-clause-table
 take_in-requires-clause-table g c =
-    let i = c.c.inside in let hv = c.heap.view_is in let words = c.heap.invariant.words in
-    (
+    let i = c.c.inside in let hv = c.heap.view_is in let words = c.heap.invariant.words in (
       ap (λ (t : RootToken). t.table) c.root.view_is ∙ (c.requires.tables.0 ∙ ap (λ (t : HeapToken). t.table) (sym hv)),
       ap (λ (t : Token). t.table) c.c.view_is ∙ (c.requires.tables.1 ∙ ap (λ (t : HeapToken). t.table) (sym hv)),
       no_outs i.place.me.1 (ap (λ (t : Token). t.out) c.c.view_is ∙ c.requires.out),
