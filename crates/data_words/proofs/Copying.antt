@@ -1,12 +1,12 @@
 -- Lists of loads and stores: what they leave to their caller, and how they join.
-use Rattle.std.proofs.Common.{◌≡◌, ℕ, suc, ◌+◌, List, [], ◌∷◌, ◌++◌, length, refl, sym, ap, ◌∙◌, subst, append_assoc, arith, length-append}
+use Rattle.std.proofs.Common.{◌≡◌, ℕ, ◌+◌, List, [], ◌∷◌, ◌++◌, length, refl, sym, ap, ◌∙◌, subst, append_assoc, arith}
 use Rattle.heap_model.specs.declared.Act.TheVariants as acts
 use Rattle.heap_model.specs.declared.Entry.{Entry}
 use Rattle.heap_model.specs.declared.Opening.{Opening}
 use Rattle.heap_model.specs.State.{Setting, hands, updated}
 use Rattle.heap_model.specs.CallState.{Configuration, CallState}
 use Rattle.heap_model.specs.Legal.{after}
-use Rattle.heap_model.specs.History.{configuration_after, configuration_of, own}
+use Rattle.heap_model.specs.History.{configuration_after, own}
 use Rattle.heap_model.specs.Agreement.{AgreesFor}
 use Rattle.heap_model.proofs.Others.{agrees_trans}
 use Rattle.claim_rule.specs.Entries.{IsSettingOf, entry}

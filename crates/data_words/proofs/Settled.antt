@@ -1,5 +1,5 @@
 -- A caller with nothing under way is so behind loads and stores.
-use Rattle.std.proofs.Common.{◌≡◌, ℕ, Bool, List, [], ◌∷◌, sym, ◌∙◌, subst}
+use Rattle.std.proofs.Common.{ℕ, Bool, List, [], ◌∷◌, sym, ◌∙◌, subst}
 use Rattle.heap_model.specs.declared.Entry.{Entry}
 use Rattle.heap_gate.specs.Token.{HeapToken, Token}
 use Rattle.heap_gate.specs.Calls.{Runs, Stands, stance}

@@ -1,6 +1,5 @@
 ghost use Rattle.std.specs.Prelude.{◌≡◌, ◌+◌, ◌<◌, ◌≤◌, false, true, IfOk};
 ghost use Rattle.heap_gate.specs.Counts.{IsSettled};
-ghost use Rattle.heap_gate.specs.Token.{HeapToken, Token};
 
 use super::*;
 use heap_gate::{Root, enter_now, make_caller, open};

@@ -1,5 +1,5 @@
 -- What each step at the gate makes of a caller.
-use Rattle.std.proofs.Common.{◌≡◌, ℕ, Bool, true, false, List, [], ◌∷◌, Option, Some, None, refl, sym, ap, ◌∙◌, subst}
+use Rattle.std.proofs.Common.{◌≡◌, ℕ, Bool, true, false, List, [], ◌∷◌, Option, Some, None, refl, sym, ap, subst}
 use Rattle.std.proofs.lemmas.Bool.{false≢true}
 use Rattle.atomic_table.specs.Table.{Me}
 use Rattle.atomic_table.specs.Seated.{TableId}
@@ -16,14 +16,14 @@ use Rattle.heap_model.specs.Legal.{after, is_lock_or_compact}
 use Rattle.heap_model.specs.History.{configuration_after, configuration_of}
 use Rattle.heap_model.specs.Agreement.{AgreesFor, reveals_nothing, revealed}
 use Rattle.claim_rule.specs.declared.views.View.{View}
-use Rattle.claim_rule.specs.Entries.{IsSettingOf, entry}
+use Rattle.claim_rule.specs.Entries.{entry}
 use Rattle.claim_rule.specs.Rule.{ready_after}
 use Rattle.claim_rule.specs.Plays.{Goes}
 use Rattle.heap_gate.specs.Token.{IsAt, IsCaller, outs}
 use Rattle.heap_gate.specs.Seated.{Face, tok}
-use Rattle.heap_gate.specs.Calls.{Runs, Reveals, HasEntered, HasTurnedBack, HasLeft, HasLocked, HasMissedGate, HasUnlocked, stance}
+use Rattle.heap_gate.specs.Calls.{Runs, HasEntered, HasTurnedBack, HasLeft, HasLocked, HasMissedGate, HasUnlocked, stance}
 use Rattle.heap_gate.proofs.Standing.{at_enter, at_leave, at_lock, at_unlock, at_gate_taken}
-use Rattle.heap_gate.proofs.Tokens.{Behind, IsBehind, At, Acted, acted, acted_once, as_was, faced, marks, moved_by, at_behind, with_left, one_agrees, lock_shows, none_agrees, same_in_hand}
+use Rattle.heap_gate.proofs.Tokens.{Behind, At, Acted, acted, acted_once, as_was, faced, marks, moved_by, at_behind, with_left, one_agrees, lock_shows, none_agrees, same_in_hand}
 use Rattle.heap_gate.proofs.Turning.{both, at_end, agrees_end, hands_end, names_another}
 
 -- the call that enters, or that takes the heap lock

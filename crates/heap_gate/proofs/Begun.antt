@@ -1,7 +1,7 @@
 -- A call that prepares its Begin itself, and then goes on.
 use Rattle.std.proofs.Common.{◌≡◌, ℕ, Bool, true, false, cond, ◌&&◌, ◌||◌, not, List, [], ◌∷◌, ◌++◌, Option, Some, None, refl, sym, ap, ◌∙◌, subst, append_assoc}
 use Rattle.std.specs.Prelude.{is_some, OnOk, IfErr, Result, Ok, Err}
-use Rattle.std.proofs.lemmas.Bool.{false≢true, true≢false}
+use Rattle.std.proofs.lemmas.Bool.{false≢true}
 use Rattle.heap_model.specs.declared.Act.{Act}
 use Rattle.heap_model.specs.declared.Act.TheVariants as acts
 use Rattle.heap_model.specs.declared.Call.{Call}
@@ -18,7 +18,7 @@ use Rattle.heap_model.specs.Agreement.{AgreesFor, revealed}
 use Rattle.claim_rule.specs.Entries.{entry}
 use Rattle.claim_rule.proofs.Lists.{after-append}
 use Rattle.heap_gate.specs.Token.{Token, IsEven, now}
-use Rattle.heap_gate.specs.Calls.{Does, Runs, Reveals, Stance, stance, with_prepared, begun_with, begins, begun_unlock, begins_unlock, is_compacting, HasEntered, HasTurnedBack, HasLocked, HasMissedGate, HasUnlocked}
+use Rattle.heap_gate.specs.Calls.{Does, Runs, Reveals, stance, with_prepared, begun_with, begins, begun_unlock, begins_unlock, is_compacting, HasEntered, HasTurnedBack, HasLocked, HasMissedGate, HasUnlocked}
 
 pub on_ok : {A B : Type 0} (r : Result A B) (X Y : Type 0) → (X → Y) → OnOk r X → OnOk r Y
 on_ok (Ok a) X Y f x = f x

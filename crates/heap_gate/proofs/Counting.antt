@@ -1,5 +1,5 @@
 -- How often the list of a caller has an act, once a call has run.
-use Rattle.std.proofs.Common.{◌≡◌, ℕ, zero, suc, ◌+◌, ◌-◌, Bool, true, false, not, ◌||◌, cond, List, [], ◌∷◌, ◌++◌, refl, sym, ap, ◌∙◌, subst, arith}
+use Rattle.std.proofs.Common.{◌≡◌, ℕ, zero, suc, ◌+◌, ◌-◌, Bool, true, false, ◌||◌, cond, List, [], ◌∷◌, ◌++◌, refl, sym, ap, ◌∙◌, subst, arith}
 use Rattle.heap_model.specs.declared.Act.{Act}
 use Rattle.heap_model.specs.declared.Act.TheVariants as acts
 use Rattle.heap_model.specs.declared.Call.{Call}
@@ -13,7 +13,7 @@ use Rattle.heap_model.specs.History.{own}
 use Rattle.claim_rule.specs.Entries.{entry}
 use Rattle.claim_rule.proofs.Lists.{prefix_self, prefix_trans}
 use Rattle.heap_gate.specs.Token.{HeapToken, Token}
-use Rattle.heap_gate.specs.Calls.{Does, Stance, stance, Stands, with_prepared, begun_with, begun_unlock, IsRefusedLock, HasEntered, HasTurnedBack, HasLeft, HasUnlocked, HasLocked, IsDeeper, IsShallower, begins, begins_unlock, is_compacting}
+use Rattle.heap_gate.specs.Calls.{Does, Stance, stance, Stands, with_prepared, begun_with, IsRefusedLock, HasEntered, HasTurnedBack, HasLeft, HasUnlocked, IsDeeper, IsShallower, begins, is_compacting}
 use Rattle.heap_gate.specs.Counts.{enters, locks, counted, IsSettled, GoesOn}
 
 pub counted-append : (f : Act → ℕ) (xs ys : List Entry) → counted f (xs ++ ys) ≡ counted f xs + counted f ys

@@ -1,6 +1,6 @@
 -- A caller that says that no live block has an address, with the step that leaves or gives a lock back.
-use Rattle.std.proofs.Common.{◌≡◌, ℕ, Bool, true, false, ◌&&◌, List, [], ◌∷◌, Option, None, refl, sym, ap, ◌∙◌, subst, eq-eqb}
-use Rattle.std.proofs.lemmas.Bool.{and_parts, and_from}
+use Rattle.std.proofs.Common.{◌≡◌, ℕ, Bool, true, false, List, [], ◌∷◌, Option, refl, sym, ap, ◌∙◌, subst, eq-eqb}
+use Rattle.std.proofs.lemmas.Bool.{and_parts}
 use Rattle.atomic_table.specs.Table.{Me}
 use Rattle.atomic_table.specs.Seated.{TableId}
 use Rattle.rand_core.specs.Stream.{Stream}
@@ -16,7 +16,7 @@ use Rattle.heap_model.specs.Agreement.{AgreesFor, reveals_nothing}
 use Rattle.heap_model.proofs.GateSound.{row_of}
 use Rattle.heap_model.proofs.Own.{act_agrees}
 use Rattle.claim_rule.specs.declared.views.View.{View}
-use Rattle.claim_rule.specs.Entries.{IsSettingOf, is_by, entry}
+use Rattle.claim_rule.specs.Entries.{is_by, entry}
 use Rattle.claim_rule.specs.Rule.{ready_after}
 use Rattle.claim_rule.specs.Plays.{Goes, GoesIn}
 use Rattle.claim_rule.specs.Home.{HasSlot, slot_of}
@@ -24,7 +24,7 @@ use Rattle.heap_gate.specs.Token.{IsAt, IsCaller, AreOut, outs, is_out}
 use Rattle.heap_gate.specs.Seated.{Face, tok}
 use Rattle.heap_gate.specs.Calls.{Runs, Stands, HasLeft, HasGiven, stance}
 use Rattle.heap_gate.proofs.Standing.{at_leave, at_given, at_plain}
-use Rattle.heap_gate.proofs.Tokens.{Behind, IsBehind, At, Acted, acted, faced, marks, moved_by, at_behind, with_left, same_in_hand}
+use Rattle.heap_gate.proofs.Tokens.{Behind, At, Acted, acted, faced, marks, moved_by, at_behind, with_left, same_in_hand}
 
 abbrev pub two : ℕ → Act → Act → List Entry
 two n a b = entry n a ∷ entry n b ∷ []

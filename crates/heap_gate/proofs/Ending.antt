@@ -10,7 +10,7 @@ use Rattle.heap_model.specs.declared.What.{What}
 use Rattle.heap_model.specs.declared.What.TheVariants as whats
 use Rattle.heap_model.specs.State.{Setting, is_among, is_caller, holds}
 use Rattle.heap_model.specs.CallState.{Configuration, caller_view}
-use Rattle.heap_model.specs.History.{configuration_of, first_configuration, own}
+use Rattle.heap_model.specs.History.{configuration_of, first_configuration}
 use Rattle.heap_model.proofs.GateSound.{gate_sound_first, none_held}
 use Rattle.heap_model.proofs.Others.{agrees_others}
 use Rattle.claim_rule.specs.declared.views.Assignment.{Assignment}

@@ -29,7 +29,6 @@ use Rattle.claim_rule.specs.Plays.{agreed, numbered, heard_all, number_of}
 use Rattle.claim_rule.proofs.Lists.{after-append, follow_parts, legal_parts, none_between, named_more, setting_less, prefix_more, prefix_self, prefix_trans, slot_before}
 use Rattle.claim_rule.proofs.Seats.{at_joined}
 use Rattle.random_pick.specs.CallerDraws.{IsBeforeDraw}
-use Rattle.claim_rule.specs.declared.views.Owed.{Owed}
 use Rattle.heap_gate.specs.Token.{Token, IsAt, IsCaller, AreOut, outs, search_marks}
 use Rattle.heap_gate.specs.Seated.{Face, tok}
 use Rattle.heap_gate.specs.Roots.{IsIdle, HaveMet, IsRoot, root_token, HasJoined, AreTheirs, joined_of, roll_in, lists_of, lead_at}

@@ -1,5 +1,5 @@
 -- A caller with one prepared entry more.
-use Rattle.std.proofs.Common.{◌≡◌, ℕ, ◌+◌, ◌<◌, Bool, true, false, not, ◌&&◌, ◌==◌, List, [], ◌∷◌, ◌++◌, length, Option, Some, None, refl, sym, ap, ◌∙◌, subst, arith, eq-eqb, append_assoc, length-append}
+use Rattle.std.proofs.Common.{◌≡◌, ℕ, ◌+◌, ◌<◌, Bool, true, false, not, ◌&&◌, ◌==◌, List, [], ◌∷◌, ◌++◌, length, Option, None, refl, sym, ap, ◌∙◌, subst, arith, eq-eqb, append_assoc, length-append}
 use Rattle.std.specs.Prelude.{is_some}
 use Rattle.std.proofs.lemmas.Bool.{and_parts, and_from, both_ways, false≢true, true≢false, not-true}
 use Rattle.atomic_table.specs.Table.{Me}
@@ -15,8 +15,8 @@ use Rattle.heap_model.specs.declared.Layer.TheVariants as layers
 use Rattle.heap_model.specs.declared.What.TheVariants as whats
 use Rattle.heap_model.specs.State.{Setting, Place, hands, is_entered}
 use Rattle.heap_model.specs.Stay.{for_some}
-use Rattle.heap_model.specs.CallState.{Configuration, CallerView, caller_view, holds_none}
-use Rattle.heap_model.specs.Legal.{may, may_follow, after, is_empty}
+use Rattle.heap_model.specs.CallState.{Configuration, caller_view, holds_none}
+use Rattle.heap_model.specs.Legal.{may, may_follow, after}
 use Rattle.heap_model.specs.History.{configuration_after, configuration_of, own}
 use Rattle.heap_model.proofs.GateSound.{row_of, none_held}
 use Rattle.claim_rule.specs.declared.views.View.{View}
@@ -24,7 +24,7 @@ use Rattle.claim_rule.specs.Entries.{IsSettingOf, setting_of, entry, leaves_word
 use Rattle.claim_rule.specs.Rule.{ready_after}
 use Rattle.claim_rule.proofs.Lists.{after-append}
 use Rattle.claim_rule.proofs.Advance.{some_setting}
-use Rattle.heap_gate.specs.Token.{Token, IsAt, IsCaller, IsEven, SearchMarks, search_mark, search_marks_from, search_marks, count, outs}
+use Rattle.heap_gate.specs.Token.{IsAt, IsCaller, IsEven, SearchMarks, search_mark, search_marks, count, outs}
 use Rattle.heap_gate.specs.Seated.{Face, tok}
 use Rattle.heap_gate.specs.Calls.{call_with, is_begun_with, is_unless_begun, is_whole_with, is_free_with, searches_with, with_prepared, HasRested}
 use Rattle.heap_gate.proofs.Standing.{at_prepared, at_rested, begin_ok, none_of}

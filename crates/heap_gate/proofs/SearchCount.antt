@@ -1,6 +1,6 @@
 -- How many searches a caller has made is told by its own entries.
 use Rattle.std.proofs.Common.{◌≡◌, ℕ, ◌+◌, ◌==◌, Bool, true, false, ◌&&◌, ◌||◌, not, List, [], ◌∷◌, ◌++◌, Option, Some, None, refl, sym, ap, ◌∙◌, subst, eq-eqb, ne_eqb, inl, inr}
-use Rattle.std.specs.Prelude.{is_some, option_and_then}
+use Rattle.std.specs.Prelude.{option_and_then}
 use Rattle.std.proofs.lemmas.Bool.{cases_Bool, and_parts, eqb-true, eqb-false, false≢true, true≢false}
 use Rattle.heap_model.specs.declared.Act.{Act}
 use Rattle.heap_model.specs.declared.Act.TheVariants as acts
@@ -9,7 +9,7 @@ use Rattle.heap_model.specs.declared.Kind.{Kind}
 use Rattle.heap_model.specs.declared.Kind.TheVariants as kinds
 use Rattle.heap_model.specs.Buckets.{bucket_of}
 use Rattle.heap_model.specs.State.{Setting, Area, updated}
-use Rattle.heap_model.specs.Stay.{for_some, is_some_of}
+use Rattle.heap_model.specs.Stay.{is_some_of}
 use Rattle.heap_model.specs.CallState.{Stage, NotBegun, AtHint, FirstPass, SecondPass, Search, CallState, Configuration, CallerView, caller_view}
 use Rattle.heap_model.specs.Search.{SearchKey, search_key_of, asked_bucket, sought, searched, request_of, is_spent, all_read_at, last_read, head_of, has_not_begun, after_pick, after_saw, onto_span_at, after_lost, after_own_span, after_no_span, after_no_hint}
 use Rattle.heap_model.specs.Legal.{may, may_follow, after, searched_once, call_after, step_search, with_search, after_span}

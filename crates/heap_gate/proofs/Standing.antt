@@ -1,20 +1,19 @@
 -- Where a caller stands before and after each of its entries.
 use Rattle.std.proofs.Common.{◌≡◌, ℕ, ◌<◌, ◌==◌, Bool, true, false, not, ◌&&◌, ◌||◌, List, [], ◌∷◌, Option, Some, None, refl, sym, ap, ◌∙◌, eq-eqb, subst}
 use Rattle.std.specs.Prelude.{is_some, nat_lt}
-use Rattle.std.proofs.lemmas.Bool.{and_parts, and_from, or_left, or_right, both_ways, not-true, false≢true, lt-ltb}
+use Rattle.std.proofs.lemmas.Bool.{and_from, or_left, or_right, false≢true, lt-ltb}
 use Rattle.heap_model.specs.declared.Act.{Act}
 use Rattle.heap_model.specs.declared.Act.TheVariants as acts
 use Rattle.heap_model.specs.declared.Call.{Call}
-use Rattle.heap_model.specs.declared.Layer.TheVariants as layers
 use Rattle.heap_model.specs.declared.What.{What}
 use Rattle.heap_model.specs.declared.What.TheVariants as whats
 use Rattle.heap_model.specs.State.{Setting, State, GateAndLocks, is_among, is_caller, is_entered, hands, holds, updated}
 use Rattle.heap_model.specs.Stay.{for_some}
 use Rattle.heap_model.specs.CallState.{Configuration, CallerView, CallState, Nothing, caller_view, is_outside, is_inside, holds_none, held}
-use Rattle.heap_model.specs.Legal.{may, may_follow, after, is_lock_or_compact, call_after, state_after, gate_blocked, is_empty, meets_demand, may_give_lock, leaves_whole}
-use Rattle.heap_model.specs.Agreement.{AgreesFor, is_stable}
+use Rattle.heap_model.specs.Legal.{may, may_follow, after, is_lock_or_compact, call_after, gate_blocked, is_empty, meets_demand, leaves_whole}
+use Rattle.heap_model.specs.Agreement.{AgreesFor}
 use Rattle.heap_model.proofs.Stable.{caller_view_same, same_hands}
-use Rattle.heap_model.proofs.GateSound.{row_of, held_is}
+use Rattle.heap_model.proofs.GateSound.{held_is}
 use Rattle.heap_model.proofs.ListLemmas.{is_among-without}
 use Rattle.claim_rule.specs.Entries.{entry, leaves_words, may_prepare}
 use Rattle.claim_rule.specs.Steps.{MayPass, MayGoOut, MayTryLock, MayGiveUp}

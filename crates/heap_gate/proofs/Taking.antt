@@ -1,5 +1,5 @@
 -- What taking and giving back the lock of a layer makes of a caller.
-use Rattle.std.proofs.Common.{◌≡◌, ℕ, ◌+◌, ◌==◌, Bool, true, false, ◌&&◌, not, List, [], ◌∷◌, Option, Some, None, refl, sym, ap, ◌∙◌, subst, arith, eq-eqb}
+use Rattle.std.proofs.Common.{◌≡◌, ℕ, ◌+◌, ◌==◌, true, false, ◌&&◌, not, List, [], ◌∷◌, Option, Some, None, refl, sym, ap, ◌∙◌, subst, arith, eq-eqb}
 use Rattle.std.proofs.lemmas.Bool.{and_parts, false≢true, eqb-true, both_ways, not-true}
 use Rattle.atomic_table.specs.Table.{Me}
 use Rattle.atomic_table.specs.Seated.{TableId}
@@ -13,7 +13,7 @@ use Rattle.heap_model.specs.State.{Setting, hands}
 use Rattle.heap_model.specs.Stay.{for_some}
 use Rattle.heap_model.specs.CallState.{Configuration}
 use Rattle.heap_model.specs.Legal.{may, may_follow, after}
-use Rattle.heap_model.specs.History.{configuration_after, configuration_of}
+use Rattle.heap_model.specs.History.{configuration_of}
 use Rattle.heap_model.specs.Agreement.{AgreesFor, revealed}
 use Rattle.heap_model.proofs.GateSound.{row_of}
 use Rattle.claim_rule.specs.declared.views.View.{View}
@@ -26,9 +26,9 @@ use Rattle.claim_rule.specs.Home.{HasSlot, slot_of, Tells}
 use Rattle.lock_steps.specs.Locks.{owed_with}
 use Rattle.heap_gate.specs.Token.{Token, IsAt, IsCaller, AreOut, outs, is_out}
 use Rattle.heap_gate.specs.Seated.{Face, tok}
-use Rattle.heap_gate.specs.Calls.{Runs, Reveals, IsGuarded, Stands, HasTaken, HasMissed, HasGiven, stance}
+use Rattle.heap_gate.specs.Calls.{IsGuarded, Stands, HasTaken, HasMissed, HasGiven, stance}
 use Rattle.heap_gate.proofs.Standing.{at_taken, at_missed, at_given}
-use Rattle.heap_gate.proofs.Tokens.{Behind, IsBehind, Acted, acted, acted_once, as_was, faced, marks, moved_by, at_behind, with_left, one_agrees, take_shows, same_in_hand, guarded_by}
+use Rattle.heap_gate.proofs.Tokens.{Behind, Acted, acted, acted_once, as_was, faced, marks, moved_by, at_behind, with_left, take_shows, same_in_hand, guarded_by}
 use Rattle.heap_gate.proofs.Acting.{runs_of}
 
 ---- The word of a lock that another holds

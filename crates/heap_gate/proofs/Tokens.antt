@@ -9,10 +9,9 @@ use Rattle.rand_core.specs.Stream.{Stream}
 use Rattle.random_pick.specs.CallerDraws.{IsBeforeDraw}
 use Rattle.heap_model.specs.declared.Act.{Act}
 use Rattle.heap_model.specs.declared.Act.TheVariants as acts
-use Rattle.heap_model.specs.declared.Call.{Call}
 use Rattle.heap_model.specs.declared.Entry.{Entry}
 use Rattle.heap_model.specs.declared.Opening.{Opening}
-use Rattle.heap_model.specs.State.{Setting, Place, hands}
+use Rattle.heap_model.specs.State.{Setting, hands}
 use Rattle.heap_model.specs.CallState.{Configuration}
 use Rattle.heap_model.specs.Legal.{may_follow, after}
 use Rattle.heap_model.specs.History.{configuration_after, configuration_of, own}
@@ -32,7 +31,7 @@ use Rattle.claim_rule.proofs.Lists.{own-append, own_by, by-append, prefix_self, 
 use Rattle.claim_rule.proofs.Prepared.{prepared_by}
 use Rattle.claim_rule.proofs.Advance.{some_setting}
 use Rattle.claim_rule.proofs.Gate.{one_by}
-use Rattle.heap_gate.specs.Token.{Token, IsAt, IsCaller, SearchMarks, search_mark, search_marks_from, search_marks, count, now, outs, AreOut}
+use Rattle.heap_gate.specs.Token.{IsAt, IsCaller, SearchMarks, search_mark, search_marks_from, search_marks, count, outs, AreOut}
 use Rattle.heap_gate.specs.Seated.{Face, tok}
 use Rattle.heap_gate.specs.Calls.{Does, Stands, Stance, IsGuarded}
 use Rattle.heap_gate.proofs.Standing.{at_agrees}

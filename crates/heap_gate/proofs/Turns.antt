@@ -12,13 +12,13 @@ use Rattle.heap_model.specs.declared.What.{What}
 use Rattle.heap_model.specs.declared.What.TheVariants as whats
 use Rattle.heap_model.specs.Geometry.{page_bytes}
 use Rattle.heap_model.specs.Layers.{LayerState}
-use Rattle.heap_model.specs.State.{State, BackPart, Span, is_among, opening}
+use Rattle.heap_model.specs.State.{State, BackPart, is_among, opening}
 use Rattle.heap_model.specs.Ranges.{is_of_kind}
 use Rattle.heap_model.specs.Legal.{leaves_whole, has_place}
 use Rattle.heap_model.specs.History.{own}
 use Rattle.claim_rule.specs.declared.views.Owed.{Owed}
 use Rattle.claim_rule.specs.Entries.{entry}
-use Rattle.claim_rule.specs.Home.{HasSlot, slot_of, Tells}
+use Rattle.claim_rule.specs.Home.{HasSlot, Tells}
 use Rattle.claim_rule.proofs.Lists.{prefix_self, prefix_trans}
 use Rattle.lock_steps.specs.Locks.{IsPaid, owed_with}
 use Rattle.heap_gate.specs.Token.{HeapToken, Token}

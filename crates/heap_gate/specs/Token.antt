@@ -1,5 +1,5 @@
 -- What a contract sees of a heap and of a caller, and where a caller stands.
-use Rattle.std.specs.Prelude.{◌≡◌, ℕ, ◌+◌, ◌<◌, ◌==◌, Bool, true, false, not, ◌||◌, List, [], ◌∷◌, ◌++◌, length, Option, Some, None, is_some}
+use Rattle.std.specs.Prelude.{◌≡◌, ℕ, ◌+◌, ◌<◌, ◌==◌, Bool, true, false, not, ◌||◌, List, [], ◌∷◌, length, Option, None, is_some}
 use Rattle.atomic_table.specs.Table.{Me}
 use Rattle.atomic_table.specs.Seated.{TableId}
 use Rattle.rand_core.specs.Stream.{Stream}
@@ -13,14 +13,14 @@ use Rattle.heap_model.specs.declared.What.TheVariants as whats
 use Rattle.heap_model.specs.Limits.{AreValid}
 use Rattle.heap_model.specs.State.{Setting, is_among, is_caller, is_entered, hands, holds}
 use Rattle.heap_model.specs.CallState.{Configuration, Nothing}
-use Rattle.heap_model.specs.History.{configuration_after, configuration_of, own}
+use Rattle.heap_model.specs.History.{configuration_after, configuration_of}
 use Rattle.random_pick.specs.CallerDraws.{IsBeforeDraw}
 use Rattle.claim_rule.specs.declared.views.Assignment.{Assignment}
 use Rattle.claim_rule.specs.declared.views.Owed.{Owed}
 use Rattle.claim_rule.specs.declared.views.Role.TheVariants.{Caller}
 use Rattle.claim_rule.specs.declared.views.View.{View}
 use Rattle.claim_rule.specs.Places.{word_count, vs_slot, back_slot, large_slot}
-use Rattle.claim_rule.specs.Entries.{IsSettingOf, IsLegalWith, are_prepared, slot_at, entry}
+use Rattle.claim_rule.specs.Entries.{IsSettingOf, IsLegalWith, are_prepared, slot_at}
 
 ---- The heap
 

@@ -45,7 +45,7 @@ pub struct Caller<T: Stands> {
 impl<T: Stands> Model for Caller<T> {
     ghost use Rattle.random_pick.specs.CallerDraws.{words_of};
     ghost use Rattle.heap_gate.specs.Token.{Token, IsCaller};
-    ghost use Rattle.heap_gate.specs.Seated.{Face, tok};
+    ghost use Rattle.heap_gate.specs.Seated.{tok};
 
     ghost Value = { Token };
 

@@ -1,9 +1,9 @@
-ghost use Rattle.std.specs.Prelude.{◌≡◌, ◌+◌, ◌<◌, ◌≤◌, ◌∷◌, false, true, [], length, is_some, IfOk};
+ghost use Rattle.std.specs.Prelude.{◌≡◌, ◌+◌, ◌<◌, ◌∷◌, false, true, [], length, is_some, IfOk};
 ghost use Rattle.heap_model.specs.History.{own};
 ghost use Rattle.claim_rule.specs.Home.{HasSlot};
-ghost use Rattle.heap_gate.specs.Token.{HeapToken, Token, count};
+ghost use Rattle.heap_gate.specs.Token.{count};
 ghost use Rattle.heap_gate.specs.Calls.{IsUnder};
-ghost use Rattle.heap_gate.specs.Roots.{RootToken, is_of};
+ghost use Rattle.heap_gate.specs.Roots.{is_of};
 ghost use Rattle.heap_gate.specs.Counts.{AreTwo, IsSettled, counted};
 ghost use Rattle.heap_gate.specs.Turns.{takes, TakesOn};
 

@@ -1,7 +1,6 @@
 ghost use Rattle.std.specs.Prelude.{◌≡◌, ◌+◌, ◌-◌, ◌<◌, ◌≤◌, false, true, [], length, IfOk};
 ghost use Rattle.heap_model.specs.History.{own};
-ghost use Rattle.heap_gate.specs.Token.{HeapToken, Token, count};
-ghost use Rattle.heap_gate.specs.Roots.{RootToken};
+ghost use Rattle.heap_gate.specs.Token.{count};
 ghost use Rattle.heap_gate.specs.Counts.{AreTwo, IsSettled, GoesOn, counted, enters, locks};
 
 use super::*;

@@ -1,10 +1,8 @@
-use Rattle.std.proofs.Common.{◌≡◌, ◌∙◌, ℕ, ◌+◌, ◌≤◌, List, [], ◌∷◌, ◌++◌, length, true, sym, subst, ap, arith}
+use Rattle.std.proofs.Common.{◌∙◌, ℕ, ◌+◌, [], ◌∷◌, ◌++◌, length, sym, subst, ap, arith}
 use Rattle.std.proofs.lemmas.List.{length_push}
 use Rattle.heap_model.specs.Limits.{AreValid}
-use Rattle.heap_model.specs.declared.Limits.{Limits}
 use Rattle.heap_model.specs.declared.Opening.{Opening}
 use Rattle.heap_gate.specs.Calls.{Runs}
-use Rattle.data_words.specs.Copies.{IsCopied}
 use Rattle.data_words.proofs.Copying.{one, loaded_and_stored, copied_more, stands_then}
 use Rattle.data_words.proofs.copy.Goals as goal
 

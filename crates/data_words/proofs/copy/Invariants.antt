@@ -1,5 +1,4 @@
 use Rattle.std.proofs.Common.{◌≡◌, ℕ, true, List, length}
-use Rattle.heap_gate.specs.Token.{Token}
 use Rattle.data_words.specs.Copies.{IsCopied}
 use Rattle.data_words.proofs.copy.Given as goal
 

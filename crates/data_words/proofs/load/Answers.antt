@@ -1,13 +1,11 @@
-use Rattle.std.proofs.Common.{◌≡◌, ◌∙◌, ℕ, ◌+◌, ◌<◌, [], ◌∷◌, true, refl, sym, subst, ap, arith}
+use Rattle.std.proofs.Common.{◌∙◌, [], ◌∷◌, subst, ap}
 use Rattle.random_pick.specs.CallerDraws.{words_of}
 use Rattle.heap_model.specs.declared.Act.TheVariants as acts
-use Rattle.heap_model.specs.declared.Opening.{Opening}
 use Rattle.claim_rule.specs.Entries.{entry}
-use Rattle.claim_rule.specs.Places.{data_at, data_count}
-use Rattle.heap_gate.specs.Token.{HeapToken, Token}
+use Rattle.heap_gate.specs.Token.{Token}
 use Rattle.heap_gate.specs.Seated.{Face, tok}
 use Rattle.heap_gate.specs.Calls.{Runs, Stands, stance}
-use Rattle.heap_gate.proofs.Tokens.{as_was, faced, goes_by, ready_by}
+use Rattle.heap_gate.proofs.Tokens.{as_was, faced, goes_by}
 use Rattle.data_words.proofs.Loading.{inside_by, loading, loaded_runs}
 use Rattle.data_words.proofs.load.Goals as goal
 

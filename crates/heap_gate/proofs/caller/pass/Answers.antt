@@ -1,4 +1,4 @@
-use Rattle.std.proofs.Common.{◌≡◌, ◌∙◌, ℕ, Bool, List, [], ◌∷◌, true, false, cond, Some, refl, sym, subst, ap}
+use Rattle.std.proofs.Common.{◌≡◌, ◌∙◌, ℕ, Bool, [], ◌∷◌, true, false, cond, sym, subst, ap}
 use Rattle.random_pick.specs.CallerDraws.{words_of}
 use Rattle.claim_rule.specs.Entries.{entry}
 use Rattle.claim_rule.specs.Plays.{Goes, number_of}
@@ -8,10 +8,7 @@ use Rattle.heap_model.specs.declared.Act.TheVariants as acts
 use Rattle.heap_model.specs.declared.What.TheVariants as whats
 use Rattle.heap_gate.specs.Token.{Token, IsAt, outs}
 use Rattle.heap_gate.specs.Seated.{Face, tok}
-use Rattle.heap_model.specs.declared.Call.{Call}
-use Rattle.heap_model.specs.declared.Entry.{Entry}
 use Rattle.heap_model.specs.History.{configuration_of}
-use Rattle.claim_rule.specs.Rule.{IsReady}
 use Rattle.claim_rule.specs.Plays.{gate_act}
 use Rattle.claim_rule.specs.Steps.{MayGoOut, MayPass}
 use Rattle.heap_gate.specs.Calls.{HasEntered, HasTurnedBack, stance, may_enter_by}

@@ -1,7 +1,7 @@
 use Rattle.std.proofs.Common.{sym, subst}
 use Rattle.random_pick.specs.CallerDraws.{words_of}
 use Rattle.heap_gate.specs.Token.{Token, Always, now}
-use Rattle.heap_gate.specs.Seated.{Face, tok}
+use Rattle.heap_gate.specs.Seated.{Face}
 use Rattle.heap_gate.specs.Calls.{HasRested}
 use Rattle.heap_gate.proofs.Preparation.{rests_so}
 use Rattle.heap_gate.proofs.entries.rest.Goals as goal

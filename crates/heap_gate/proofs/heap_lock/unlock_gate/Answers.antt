@@ -1,4 +1,4 @@
-use Rattle.std.proofs.Common.{◌≡◌, ◌∙◌, ◌+◌, ◌-◌, ◌==◌, Bool, false, not, sym, ap, arith, ne_eqb}
+use Rattle.std.proofs.Common.{◌≡◌, ◌∙◌, ◌-◌, ◌==◌, false, not, sym, ap, arith, ne_eqb}
 use Rattle.random_pick.specs.CallerDraws.{words_of}
 use Rattle.heap_gate.specs.Seated.{Face}
 use Rattle.heap_gate.proofs.Tokens.{deeper}

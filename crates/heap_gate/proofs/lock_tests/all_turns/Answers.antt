@@ -1,4 +1,4 @@
-use Rattle.std.proofs.Common.{◌≡◌, ◌∙◌, ◌+◌, ℕ, arith}
+use Rattle.std.proofs.Common.{◌∙◌, ◌+◌, arith}
 use Rattle.heap_gate.specs.Turns.{takes}
 use Rattle.heap_gate.proofs.Turns.{counted_by_two}
 use Rattle.heap_gate.proofs.lock_tests.all_turns.Goals as goal

@@ -1,4 +1,4 @@
-use Rattle.std.proofs.Common.{◌≡◌, ℕ, ◌∙◌, List, [], ◌∷◌, true, sym, ap, subst}
+use Rattle.std.proofs.Common.{◌≡◌, ℕ, List, [], ◌∷◌, true, sym, subst}
 use Rattle.heap_gate.specs.Roots.{RootToken, is_of}
 use Rattle.heap_gate.proofs.lock_tests.in_two_threads.Goals as goal
 

@@ -1,4 +1,3 @@
-use Rattle.claim_rule.specs.Home.{HasSlot}
 use Rattle.heap_gate.specs.Turns.{nothing_of}
 use Rattle.heap_gate.proofs.Turns.{has_missed_turn, has_turned_lock}
 use Rattle.heap_gate.proofs.lock_tests.turn.Goals as goal

@@ -1,12 +1,9 @@
-use Rattle.std.proofs.Common.{◌≡◌, ◌∙◌, ℕ, Bool, List, [], ◌∷◌, true, false, cond, Some, refl, sym, subst, ap}
+use Rattle.std.proofs.Common.{◌≡◌, ◌∙◌, [], ◌∷◌, true, sym, subst, ap}
 use Rattle.random_pick.specs.CallerDraws.{words_of}
 use Rattle.claim_rule.specs.Entries.{entry}
-use Rattle.claim_rule.specs.Plays.{Goes, number_of}
 use Rattle.claim_rule.specs.Rule.{ready_after}
-use Rattle.heap_model.specs.declared.Act.{Act}
 use Rattle.heap_model.specs.declared.Act.TheVariants as acts
-use Rattle.heap_model.specs.declared.What.TheVariants as whats
-use Rattle.heap_gate.specs.Token.{Token, IsAt, outs}
+use Rattle.heap_gate.specs.Token.{Token, outs}
 use Rattle.heap_gate.specs.Seated.{Face, tok}
 use Rattle.std.specs.Prelude.{not, ◌||◌, ◌==◌}
 use Rattle.heap_model.specs.Legal.{leaves_whole}

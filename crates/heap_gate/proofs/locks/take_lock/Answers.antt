@@ -1,24 +1,20 @@
-use Rattle.std.proofs.Common.{◌≡◌, ◌∙◌, ℕ, Bool, List, [], ◌∷◌, true, false, cond, Some, refl, sym, subst, ap}
+use Rattle.std.proofs.Common.{◌≡◌, ◌∙◌, ℕ, [], ◌∷◌, true, false, Some, sym, subst, ap}
 use Rattle.random_pick.specs.CallerDraws.{words_of}
 use Rattle.claim_rule.specs.Entries.{entry}
 use Rattle.claim_rule.specs.Plays.{Goes, number_of}
 use Rattle.claim_rule.specs.Rule.{ready_after}
-use Rattle.heap_model.specs.declared.Act.{Act}
 use Rattle.heap_model.specs.declared.Act.TheVariants as acts
-use Rattle.heap_model.specs.declared.What.TheVariants as whats
-use Rattle.heap_gate.specs.Token.{Token, IsAt, outs}
+use Rattle.heap_gate.specs.Token.{Token, outs}
 use Rattle.heap_gate.specs.Seated.{Face, tok}
 use Rattle.std.proofs.Common.{Option, None, inl, inr}
 use Rattle.std.specs.Prelude.{not, ◌||◌, ◌==◌}
 use Rattle.std.proofs.lemmas.Bool.{cases_Bool, eqb-true, eqb-false}
-use Rattle.heap_model.specs.State.{Setting}
 use Rattle.heap_model.specs.History.{configuration_of}
-use Rattle.claim_rule.specs.Entries.{IsSettingOf}
 use Rattle.claim_rule.specs.declared.views.View.{View}
-use Rattle.claim_rule.specs.Home.{slot_of, Tells}
+use Rattle.claim_rule.specs.Home.{Tells}
 use Rattle.lock_steps.specs.Locks.{MayTake}
 use Rattle.heap_gate.specs.Token.{is_out}
-use Rattle.heap_gate.specs.Calls.{HasTaken, HasMissed, stance}
+use Rattle.heap_gate.specs.Calls.{HasTaken, HasMissed}
 use Rattle.heap_gate.proofs.Standing.{take_of}
 use Rattle.heap_gate.proofs.Tokens.{as_was, faced, goes_by, may_by}
 use Rattle.heap_gate.proofs.Taking.{behind_take, taking, has_taken, missing_lock, has_missed_lock}

@@ -7,7 +7,7 @@ use Rattle.atomic_table.specs.Table.{Step, step}
 use Rattle.claim_rule.specs.declared.views.Assignment.{Assignment}
 use Rattle.heap_model.specs.declared.Opening.{Opening}
 use Rattle.heap_gate.specs.Token.{HeapToken, IsCaller}
-use Rattle.heap_gate.specs.Seated.{Face, tok}
+use Rattle.heap_gate.specs.Seated.{tok}
 use Rattle.heap_gate.specs.Roots.{RootToken, joined_of, roll_in, lists_of}
 use Rattle.heap_gate.proofs.Meeting.{root_made, counted_role, fresh}
 use Rattle.heap_gate.proofs.root.make_caller.Goals as goal
