@@ -149,5 +149,5 @@ module _ (o : Opening) (st : State) (k : Kept) (t : StandsForBack o st (layer_of
         by (Into low) = inl low
         by (Next w less few none) =
             let x = goes_next st.back.area o.limits.segments n first
-                (subst (λ (a : Area). AreBelow a.reserved a.spans) (sym area_is) (spans_below k.words k.region.reserved 0 _ (runs_of k.words) sound.whole sound.used)) w few none in
+            (subst (λ (a : Area). AreBelow a.reserved a.spans) (sym area_is) (spans_below k.words k.region.reserved 0 _ (runs_of k.words) sound.whole sound.used)) w few none in
             inr (record { first_is = w; less = less; place = x.place; there = x.there; short = x.short })

@@ -122,8 +122,7 @@ impl PlainLfh {
         let at = bitmap_at(&self.limits, head, index / 64);
         let word = self.words.at(at);
         self.words.set(at, word & !(1u64 << (index % 64)));
-        self.words
-            .set(size_word_at(&self.limits, (addr / GRANULE_BYTES) as u32), 0);
+        self.words.set(size_word_at(&self.limits, (addr / GRANULE_BYTES) as u32), 0);
     }
 
     /// A block of `size` bytes of a bucket, for the callers of a slot. It has the address of a drawn free block: of the

@@ -149,16 +149,16 @@ module _ (old new : VsKept) (limits : new.limits ≡ old.limits) where
       subst (λ (q : Run). Becomes old new (λ v. with_block v q n) (λ xs. xs)) same
       (becomes old new (λ v. with_block v p.run n) (λ xs. xs) limits p.heap.key
       (λ v t. all_of new (with_block v p.run n) (p.places ∙ ap (insert_place (block_in p.run n)) (places_are v t))
-          (ap active_in p.active ∙ active_are v t)
-          (p.served ∙ ap (serve (bucket_of n)) (served_are v t)))
+      (ap active_in p.active ∙ active_are v t)
+      (p.served ∙ ap (serve (bucket_of n)) (served_are v t)))
       p.spans)
 
   pub drops : (addr : ℕ) (answer : Option (ℕ × ℕ)) → HasDropped old new addr answer → Becomes old new (λ v. without_block v addr) (without_closed answer)
   drops addr answer d =
       becomes old new (λ v. without_block v addr) (without_closed answer) limits d.heap.key
       (λ v t. all_of new (without_block v addr) (d.places ∙ removed v t addr)
-          (ap active_in d.active ∙ active_are v t)
-          (ap served_in d.served ∙ served_are v t))
+      (ap active_in d.active ∙ active_are v t)
+      (ap served_in d.served ∙ served_are v t))
       (left answer d.closed)
     where
       left : (answer : Option (ℕ × ℕ)) → IsClosed old new d.span answer → new.spans ≡ without_closed answer old.spans
@@ -173,6 +173,6 @@ module _ (old new : VsKept) (limits : new.limits ≡ old.limits) where
       subst (λ (q : Place). Becomes old new (λ v. with_length v addr (taken_of (units_of n) (reach_of old q)) n) (λ xs. xs)) same
       (becomes old new (λ v. with_length v addr (taken_of (units_of n) (reach_of old r.place)) n) (λ xs. xs) limits r.heap.key
       (λ v t. all_of new (with_length v addr (taken_of (units_of n) (reach_of old r.place)) n) (r.places ∙ changed v t addr (taken_of (units_of n) (reach_of old r.place)) n)
-          (ap active_in r.active ∙ active_are v t)
-          (ap served_in r.served ∙ served_are v t))
+      (ap active_in r.active ∙ active_are v t)
+      (ap served_in r.served ∙ served_are v t))
       r.spans)

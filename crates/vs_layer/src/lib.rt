@@ -31,7 +31,9 @@ ghost use Rattle.vs_layer.specs.Effects.{nothing_kept, ShowsChunks};
 ghost use Rattle.vs_layer.specs.Standing.{layer_of, Becomes, with_active};
 
 use counting::Counts;
-use heap_model::{FRONT_GRANULES, GRANULE_BYTES, Limits, OutOfMemory, PAGE_BYTES, SEGMENT_PAGES, Stands, filled};
+use heap_model::{
+    FRONT_GRANULES, GRANULE_BYTES, Limits, OutOfMemory, PAGE_BYTES, SEGMENT_PAGES, Stands, filled,
+};
 use index::GapSet;
 use std::alloc::Global;
 use std::marker::Model;

@@ -33,15 +33,16 @@ add-requires-clause-absent c =
     c.self.inside.tiling.index c.self.invariant.0.index (256 * c.args.pages - 3)
 
 pub invariant_of-self : goal.invariant_of-self
-invariant_of-self c =
-    (is_sound_opened _ c.self.inside.pages.items c.self.inside.counts.live.items c.self.inside.tiling.index c.self.invariant.0 c.args.first c.args.pages
-    (subst (λ (k : VsKept). AreSpanPages k.chunks c.args.first c.args.pages) (sym c.self.view_is) c.requires.pages)
-    (subst (λ (k : VsKept). AllByRecursion (LieApart c.args.first c.args.pages) k.spans) (sym c.self.view_is) c.requires.apart)
-    _ _ refl c.open_span.ensures refl refl c.add.ensures,
-     c.self.invariant.1 ∙ sym (length-set c.self.inside.pages.items c.args.first c.args.pages),
-     c.self.invariant.2,
-     c.self.invariant.3,
-     c.self.invariant.4)
+invariant_of-self c = (
+  is_sound_opened _ c.self.inside.pages.items c.self.inside.counts.live.items c.self.inside.tiling.index c.self.invariant.0 c.args.first c.args.pages
+      (subst (λ (k : VsKept). AreSpanPages k.chunks c.args.first c.args.pages) (sym c.self.view_is) c.requires.pages)
+      (subst (λ (k : VsKept). AllByRecursion (LieApart c.args.first c.args.pages) k.spans) (sym c.self.view_is) c.requires.apart)
+      _ _ refl c.open_span.ensures refl refl c.add.ensures,
+  c.self.invariant.1 ∙ sym (length-set c.self.inside.pages.items c.args.first c.args.pages),
+  c.self.invariant.2,
+  c.self.invariant.3,
+  c.self.invariant.4,
+)
 
 pub returns-clause-spans : goal.returns-clause-spans
 returns-clause-spans c =

@@ -143,12 +143,13 @@ invariant_of-self c =
     let granule : ℕ = c.join_gap_before-start.result / 16 in
     let m = c.unwrap-gap.result in
     let f = freed_block _ c.self.inside.pages.items c.self.inside.counts.live.items c.self.inside.tiling.index c.self.invariant.0 addr h low there busy c.set.new.self (c.set.ensures h there) c.join_gap_behind.new.self.heads c.join_gap_behind.new.self.index c.join_gap_behind.ensures c.join_gap_before-start.new.self.heads c.join_gap_before-start.new.self.index c.join_gap_before-start.result c.join_gap_before-start.ensures m (sym c.chunk_at-2.ensures.head ∙ c.unwrap-gap.ensures) in
-    let last = no_head c.next_of.result _ c.next_of.ensures c.if-is_none.ensures in
-    (sound_closed _ c.self.inside.pages.items c.self.inside.counts.live.items c.self.inside.tiling.index c.self.invariant.0 addr h low there busy c.size_in.result c.size_in.ensures w y (c.join_gap_before-start.result / 16) m f c.dropped.new.self.live.items c.dropped.ensures.live c.if-gap-eq0.true last _ refl c.close_span.ensures (ap (λ v. v.items) c.dropped.ensures.served) refl,
-     c.self.invariant.1 ∙ sym (length-set c.self.inside.pages.items (granule / 256) 0),
-     c.self.invariant.2,
-     less_room (bucket_of c.size_in.result) c.self.inside.counts.live.items c.dropped.new.self.live.items _ _ c.self.invariant.3 c.dropped.ensures.live_room c.dropped.ensures.live,
-     subst (λ (v : Vec _ _). vec_capacity v ≡ length v.items) (sym c.dropped.ensures.served) c.self.invariant.4)
+    let last = no_head c.next_of.result _ c.next_of.ensures c.if-is_none.ensures in (
+      sound_closed _ c.self.inside.pages.items c.self.inside.counts.live.items c.self.inside.tiling.index c.self.invariant.0 addr h low there busy c.size_in.result c.size_in.ensures w y (c.join_gap_before-start.result / 16) m f c.dropped.new.self.live.items c.dropped.ensures.live c.if-gap-eq0.true last _ refl c.close_span.ensures (ap (λ v. v.items) c.dropped.ensures.served) refl,
+      c.self.invariant.1 ∙ sym (length-set c.self.inside.pages.items (granule / 256) 0),
+      c.self.invariant.2,
+      less_room (bucket_of c.size_in.result) c.self.inside.counts.live.items c.dropped.new.self.live.items _ _ c.self.invariant.3 c.dropped.ensures.live_room c.dropped.ensures.live,
+      subst (λ (v : Vec _ _). vec_capacity v ≡ length v.items) (sym c.dropped.ensures.served) c.self.invariant.4,
+    )
 
 pub returns-then-is_none-clause-dropped : goal.returns-then-is_none-clause-dropped
 returns-then-is_none-clause-dropped c =
@@ -204,12 +205,13 @@ invariant_of-self-2 c =
     let y = c.join_gap_before-start.new.self.index in
     let granule : ℕ = c.join_gap_before-start.result / 16 in
     let m = c.unwrap-gap.result in
-    let f = freed_block _ c.self.inside.pages.items c.self.inside.counts.live.items c.self.inside.tiling.index c.self.invariant.0 addr h low there busy c.set.new.self (c.set.ensures h there) c.join_gap_behind.new.self.heads c.join_gap_behind.new.self.index c.join_gap_behind.ensures c.join_gap_before-start.new.self.heads c.join_gap_before-start.new.self.index c.join_gap_before-start.result c.join_gap_before-start.ensures m (sym c.chunk_at-2.ensures.head ∙ c.unwrap-gap.ensures) in
-    (sound_added _ c.self.inside.pages.items c.self.inside.counts.live.items c.self.inside.tiling.index c.self.invariant.0 addr h low there busy c.size_in.result c.size_in.ensures w y (c.join_gap_before-start.result / 16) m f c.dropped.new.self.live.items c.dropped.ensures.live _ refl refl (ap (λ v. v.items) c.dropped.ensures.served) refl c.add.new.self c.add.ensures,
-     c.self.invariant.1,
-     c.self.invariant.2,
-     less_room (bucket_of c.size_in.result) c.self.inside.counts.live.items c.dropped.new.self.live.items _ _ c.self.invariant.3 c.dropped.ensures.live_room c.dropped.ensures.live,
-     subst (λ (v : Vec _ _). vec_capacity v ≡ length v.items) (sym c.dropped.ensures.served) c.self.invariant.4)
+    let f = freed_block _ c.self.inside.pages.items c.self.inside.counts.live.items c.self.inside.tiling.index c.self.invariant.0 addr h low there busy c.set.new.self (c.set.ensures h there) c.join_gap_behind.new.self.heads c.join_gap_behind.new.self.index c.join_gap_behind.ensures c.join_gap_before-start.new.self.heads c.join_gap_before-start.new.self.index c.join_gap_before-start.result c.join_gap_before-start.ensures m (sym c.chunk_at-2.ensures.head ∙ c.unwrap-gap.ensures) in (
+      sound_added _ c.self.inside.pages.items c.self.inside.counts.live.items c.self.inside.tiling.index c.self.invariant.0 addr h low there busy c.size_in.result c.size_in.ensures w y (c.join_gap_before-start.result / 16) m f c.dropped.new.self.live.items c.dropped.ensures.live _ refl refl (ap (λ v. v.items) c.dropped.ensures.served) refl c.add.new.self c.add.ensures,
+      c.self.invariant.1,
+      c.self.invariant.2,
+      less_room (bucket_of c.size_in.result) c.self.inside.counts.live.items c.dropped.new.self.live.items _ _ c.self.invariant.3 c.dropped.ensures.live_room c.dropped.ensures.live,
+      subst (λ (v : Vec _ _). vec_capacity v ≡ length v.items) (sym c.dropped.ensures.served) c.self.invariant.4,
+    )
 
 pub returns-clause-dropped : goal.returns-clause-dropped
 returns-clause-dropped c =

@@ -7,17 +7,22 @@ use Rattle.vs_layer.proofs.Standing.{opens}
 use Rattle.vs_layer.proofs.Vs.new.Goals as goal
 
 pub invariant_of-result : goal.invariant_of-result
-invariant_of-result c =
-    (opening_sound _ _ _ _ c.args.limits.now.segments (record {
-      few = c.requires.segments;
-      spans = refl;
-      told_none = search rules;
-      no_heads = ap (λ (v : Chunks). v.heads) c.in_ok-new.ensures;
-      index = c.in_ok-new-2.ensures;
-      live_none = c.in_ok-new-3.ensures.live;
-      served = c.in_ok-new-3.ensures.served;
-      active = search rules;
-    }), search rules, search rules, c.in_ok-new-3.ensures.full.0, c.in_ok-new-3.ensures.full.1)
+invariant_of-result c = (
+  opening_sound _ _ _ _ c.args.limits.now.segments (record {
+    few = c.requires.segments;
+    spans = refl;
+    told_none = search rules;
+    no_heads = ap (λ (v : Chunks). v.heads) c.in_ok-new.ensures;
+    index = c.in_ok-new-2.ensures;
+    live_none = c.in_ok-new-3.ensures.live;
+    served = c.in_ok-new-3.ensures.served;
+    active = search rules;
+  }),
+  search rules,
+  search rules,
+  c.in_ok-new-3.ensures.full.0,
+  c.in_ok-new-3.ensures.full.1,
+)
 
 pub returns-clause-nothing : goal.returns-clause-nothing
 returns-clause-nothing c =

@@ -45,19 +45,20 @@ pub placed-requires-clause-room : goal.placed-requires-clause-room
 placed-requires-clause-room c = counters_grow _ c.self.inside.pages.items c.self.inside.counts.live.items c.self.inside.tiling.index c.self.invariant.0
 
 pub invariant_of-self : goal.invariant_of-self
-invariant_of-self c =
-    (sound_placed _ c.self.inside.pages.items c.self.inside.counts.live.items c.self.inside.tiling.index c.self.invariant.0 c.args.n c.units_for-units.result c.unwrap-all.result.0 c.unwrap-all.result.1
-    c.requires.size c.units_for-units.ensures (best_from c.units_for-units.result c.self.inside.tiling.index.gaps c.best.result c.unwrap-all.result c.unwrap-all.ensures c.best.ensures)
-    c.remove.new.self c.remove.ensures.gaps (16 * c.from-start.result) (ap (λ g. 16 * g) c.from-start.ensures)
-    c.cut-taken.new.self.heads c.cut-taken.new.self.index c.cut-taken.result c.cut-taken.ensures.taken
-    (λ l. (ap (λ (t : Tiling). t.heads) (c.cut-taken.ensures.whole l), ap (λ (t : Tiling). t.index) (c.cut-taken.ensures.whole l)))
-    c.cut-taken.ensures.chunks c.cut-taken.ensures.index
-    c.unused_in.result c.unused_in.ensures c.set.new.self c.set.ensures
-    _ refl refl c.placed.ensures.served refl _ c.placed.ensures.live,
-     c.self.invariant.1,
-     c.self.invariant.2,
-     more_room (bucket_of c.args.n) c.self.inside.counts.live.items c.placed.new.self.live.items _ _ c.self.invariant.3 c.placed.ensures.live_room c.placed.ensures.live,
-     once_room (bucket_of c.args.n) c.self.inside.counts.served.items c.placed.new.self.served.items _ _ c.self.invariant.4 c.placed.ensures.served_room c.placed.ensures.served)
+invariant_of-self c = (
+  sound_placed _ c.self.inside.pages.items c.self.inside.counts.live.items c.self.inside.tiling.index c.self.invariant.0 c.args.n c.units_for-units.result c.unwrap-all.result.0 c.unwrap-all.result.1
+      c.requires.size c.units_for-units.ensures (best_from c.units_for-units.result c.self.inside.tiling.index.gaps c.best.result c.unwrap-all.result c.unwrap-all.ensures c.best.ensures)
+      c.remove.new.self c.remove.ensures.gaps (16 * c.from-start.result) (ap (λ g. 16 * g) c.from-start.ensures)
+      c.cut-taken.new.self.heads c.cut-taken.new.self.index c.cut-taken.result c.cut-taken.ensures.taken
+      (λ l. (ap (λ (t : Tiling). t.heads) (c.cut-taken.ensures.whole l), ap (λ (t : Tiling). t.index) (c.cut-taken.ensures.whole l)))
+      c.cut-taken.ensures.chunks c.cut-taken.ensures.index
+      c.unused_in.result c.unused_in.ensures c.set.new.self c.set.ensures
+      _ refl refl c.placed.ensures.served refl _ c.placed.ensures.live,
+  c.self.invariant.1,
+  c.self.invariant.2,
+  more_room (bucket_of c.args.n) c.self.inside.counts.live.items c.placed.new.self.live.items _ _ c.self.invariant.3 c.placed.ensures.live_room c.placed.ensures.live,
+  once_room (bucket_of c.args.n) c.self.inside.counts.served.items c.placed.new.self.served.items _ _ c.self.invariant.4 c.placed.ensures.served_room c.placed.ensures.served,
+)
 
 pub returns-clause-placed : goal.returns-clause-placed
 returns-clause-placed c = of_same _ _ _ c.args.n (16 * c.from-start.result + 16) c.self.view_is (

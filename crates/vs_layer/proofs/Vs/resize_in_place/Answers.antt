@@ -95,19 +95,20 @@ resized-requires-clause-some c =
     size_left _ c.self.inside.pages.items c.self.inside.counts.live.items c.self.inside.tiling.index c.self.invariant.0 c.args.addr c.args.n c.unwrap-head.result (here (goal.at.resized-requires-clause-some c).After-unwrap-head) c.size_in.result c.size_in.ensures
 
 pub invariant_of-self : goal.invariant_of-self
-invariant_of-self c =
-    (sound_resized _ c.self.inside.pages.items c.self.inside.counts.live.items c.self.inside.tiling.index c.self.invariant.0 c.args.addr c.args.n c.unwrap-head.result (here (goal.at.invariant_of-self c).After-unwrap-head) (stays (goal.at.invariant_of-self c).After-unwrap-head)
-    c.units_for.result c.units_for.ensures c.reach-all.result c.reach-all.ensures c.join_gap_behind.new.self.heads c.join_gap_behind.new.self.index (c.join_gap_behind.ensures c.unwrap-head.result (here (goal.at.invariant_of-self c).After-unwrap-head).there)
-    c.cut-taken.new.self.heads c.cut-taken.new.self.index c.cut-taken.result c.cut-taken.ensures.taken
-    (λ l. (ap (λ (t : Tiling). t.heads) (c.cut-taken.ensures.whole l), ap (λ (t : Tiling). t.index) (c.cut-taken.ensures.whole l)))
-    c.cut-taken.ensures.chunks c.cut-taken.ensures.index
-    c.unused_in.result c.unused_in.ensures c.set.new.self c.set.ensures
-    _ refl refl (ap (λ (v : Vec _ _). v.items) c.resized.ensures.served) refl c.size_in.result c.size_in.ensures _ c.resized.ensures.live,
-     c.self.invariant.1,
-     c.self.invariant.2,
-     more_room (bucket_of c.args.n) (one_less (bucket_of c.size_in.result) c.self.inside.counts.live.items) c.resized.new.self.live.items _ _
-     (less_room (bucket_of c.size_in.result) c.self.inside.counts.live.items _ _ _ c.self.invariant.3 refl refl) c.resized.ensures.live_room c.resized.ensures.live,
-     subst (λ (v : Vec _ _). vec_capacity v ≡ length v.items) (sym c.resized.ensures.served) c.self.invariant.4)
+invariant_of-self c = (
+  sound_resized _ c.self.inside.pages.items c.self.inside.counts.live.items c.self.inside.tiling.index c.self.invariant.0 c.args.addr c.args.n c.unwrap-head.result (here (goal.at.invariant_of-self c).After-unwrap-head) (stays (goal.at.invariant_of-self c).After-unwrap-head)
+      c.units_for.result c.units_for.ensures c.reach-all.result c.reach-all.ensures c.join_gap_behind.new.self.heads c.join_gap_behind.new.self.index (c.join_gap_behind.ensures c.unwrap-head.result (here (goal.at.invariant_of-self c).After-unwrap-head).there)
+      c.cut-taken.new.self.heads c.cut-taken.new.self.index c.cut-taken.result c.cut-taken.ensures.taken
+      (λ l. (ap (λ (t : Tiling). t.heads) (c.cut-taken.ensures.whole l), ap (λ (t : Tiling). t.index) (c.cut-taken.ensures.whole l)))
+      c.cut-taken.ensures.chunks c.cut-taken.ensures.index
+      c.unused_in.result c.unused_in.ensures c.set.new.self c.set.ensures
+      _ refl refl (ap (λ (v : Vec _ _). v.items) c.resized.ensures.served) refl c.size_in.result c.size_in.ensures _ c.resized.ensures.live,
+  c.self.invariant.1,
+  c.self.invariant.2,
+  more_room (bucket_of c.args.n) (one_less (bucket_of c.size_in.result) c.self.inside.counts.live.items) c.resized.new.self.live.items _ _
+      (less_room (bucket_of c.size_in.result) c.self.inside.counts.live.items _ _ _ c.self.invariant.3 refl refl) c.resized.ensures.live_room c.resized.ensures.live,
+  subst (λ (v : Vec _ _). vec_capacity v ≡ length v.items) (sym c.resized.ensures.served) c.self.invariant.4,
+)
 
 pub returns-clause-resizes : goal.returns-clause-resizes
 returns-clause-resizes c =

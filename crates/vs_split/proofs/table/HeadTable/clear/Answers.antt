@@ -11,10 +11,11 @@ pub index_mut-requires-2 : goal.index_mut-requires-2
 index_mut-requires-2 c = omega (arith, c.requires, ap (λ (v : Chunks). length v.heads) c.self.view_is, granules c.self.inside.key c.self.inside.words.items c.self.inside.starts.items c.self.invariant.0, c.self.invariant.0.as_long)
 
 pub invariant_of-self : goal.invariant_of-self
-invariant_of-self c =
-    (kept_set c.self.inside.key c.self.inside.words.items c.self.inside.starts.items c.self.invariant.0 c.args.granule 0 false (omega (arith, c.requires, ap (λ (v : Chunks). length v.heads) c.self.view_is, granules c.self.inside.key c.self.inside.words.items c.self.inside.starts.items c.self.invariant.0)) refl,
-     c.self.invariant.1 ∙ sym (length-set c.self.inside.words.items c.args.granule 0),
-     c.self.invariant.2 ∙ sym (length-set c.self.inside.starts.items c.args.granule false))
+invariant_of-self c = (
+  kept_set c.self.inside.key c.self.inside.words.items c.self.inside.starts.items c.self.invariant.0 c.args.granule 0 false (omega (arith, c.requires, ap (λ (v : Chunks). length v.heads) c.self.view_is, granules c.self.inside.key c.self.inside.words.items c.self.inside.starts.items c.self.invariant.0)) refl,
+  c.self.invariant.1 ∙ sym (length-set c.self.inside.words.items c.args.granule 0),
+  c.self.invariant.2 ∙ sym (length-set c.self.inside.starts.items c.args.granule false),
+)
 
 pub returns : goal.returns
 returns c =
