@@ -8,8 +8,10 @@ use Rattle.heap_model.specs.declared.Kind.{Kind}
 use Rattle.heap_model.specs.declared.Kind.TheVariants as kinds
 use Rattle.heap_model.specs.declared.Limits.{Limits}
 use Rattle.heap_model.specs.declared.Run.{Run}
+use Rattle.heap_model.specs.declared.What.{What}
+use Rattle.heap_model.specs.declared.What.TheVariants as whats
 use Rattle.heap_model.specs.Runs as model
-use Rattle.heap_model.specs.State.{Area, GateAndLocks, Span, Place, by_address, is_kind, live_size, open_locks}
+use Rattle.heap_model.specs.State.{Area, GateAndLocks, Span, Place, by_address, is_kind, live_size, open_locks, holder_of, caller_word}
 use Rattle.heap_model.specs.Backend.{free_runs}
 use Rattle.heap_model.specs.Ranges.{gaps_of, vs_spans}
 use Rattle.heap_model.specs.CallState.{Configuration}
@@ -26,7 +28,7 @@ use Rattle.backend_fit.specs.Pages.{taken_in}
 use Rattle.backend_fit.specs.Sound.{IsSound}
 use Rattle.backend_fit.proofs.Segment.{frees_of}
 use Rattle.backend_fit.proofs.Sounds.{pages_sound}
-use Rattle.claim_rule.specs.Places.{data_region}
+use Rattle.claim_rule.specs.Places.{data_region, lock_at, IsLayerLock}
 use Rattle.claim_rule.specs.Shown.{AreShown, GateShown}
 use Rattle.vs_headers.specs.declared.Head.{Head}
 use Rattle.vs_headers.specs.Headers.{encoded, key_of}
@@ -125,16 +127,20 @@ module _ (h : LoneHeap) (m : Configuration) (st : Stands h m) where
     sizes = st.front.sizes;
   })
 
+  no_lock : (what : What) → IsLayerLock what → slice_index h.lfh.words (lock_at what) ≡ caller_word (holder_of open_locks what)
+  no_lock whats.Gate l = absurd l
+  no_lock whats.Lfh l = st.front.quiet 2 (omega arith)
+  no_lock whats.Vs l = st.front.quiet 3 (omega arith)
+  no_lock whats.Back l = st.front.quiet 4 (omega arith)
+  no_lock whats.Large l = st.front.quiet 5 (omega arith)
+
   -- nobody has entered and no lock is held
   gate_shown : GateShown m.state.gate h.lfh.words
   gate_shown =
       let rest : m.state.gate ≡ no_one = ap (λ (n : Configuration). n.state.gate) st.at_rest.rest in
       subst (λ (f : GateAndLocks). GateShown f h.lfh.words) (sym rest) (record {
         gate = st.front.quiet 1 (omega arith);
-        lfh = st.front.quiet 2 (omega arith);
-        vs = st.front.quiet 3 (omega arith);
-        back = st.front.quiet 4 (omega arith);
-        large = st.front.quiet 5 (omega arith);
+        locks = no_lock;
       })
     where
       no_one : GateAndLocks
