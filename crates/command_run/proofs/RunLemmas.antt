@@ -10,7 +10,7 @@ use Rattle.heap_model.specs.CallState.{Configuration}
 use Rattle.heap_model.specs.Alone.{alone, configuration_by}
 use Rattle.serial_laws.specs.OneCall.{CompleteInTurn, end_of}
 use Rattle.script_text.specs.declared.commands.Command.{Command}
-use Rattle.heap_now.specs.Standing.{LoneHeap, setting_of, Stands, Serves}
+use Rattle.solo_heap.specs.Standing.{LoneHeap, setting_of, Stands, Serves}
 use Rattle.command_run.specs.Commands.{call_of, assigned, calls_of, values_after}
 use Rattle.command_run.specs.Running.{Runs}
 

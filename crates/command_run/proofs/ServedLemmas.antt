@@ -10,7 +10,7 @@ use Rattle.script_text.specs.declared.commands.CommandLine.{CommandLine}
 use Rattle.script_text.specs.ThreadLines.{ThreadLines, ScriptLines}
 use Rattle.script_text.specs.Scripts.{command_of, commands_of, first_second}
 use Rattle.script_text.specs.Unbuilt.{is_free, is_small, is_built, is_built_behind, unbuilt_behind, of_threads, of_rounds, first_unbuilt}
-use Rattle.heap_now.specs.Standing.{IsBuilt}
+use Rattle.solo_heap.specs.Standing.{IsBuilt}
 use Rattle.command_run.specs.Commands.{call_of, in_threads, in_rounds, round_commands}
 use Rattle.command_run.specs.Running.{IsServed, AreServed}
 use Rattle.command_run.specs.Due.{not_single, not_built, unfit}

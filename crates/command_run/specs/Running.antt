@@ -7,7 +7,7 @@ use Rattle.heap_model.specs.CallState.{Configuration}
 use Rattle.serial_laws.specs.OneCall.{CompleteInTurn, end_of}
 use Rattle.script_text.specs.declared.commands.Command.{Command}
 use Rattle.script_text.specs.declared.commands.Command.TheVariants as commands
-use Rattle.heap_now.specs.Standing.{LoneHeap, setting_of, Stands}
+use Rattle.solo_heap.specs.Standing.{LoneHeap, setting_of, Stands}
 use Rattle.command_run.specs.Commands.{calls_of, values_after, in_threads}
 
 -- a command that the program runs

@@ -3,7 +3,7 @@ ghost use Rattle.std.specs.Prelude.{◌≡◌, ◌<◌, [], ◌∷◌, ◌++◌,
 ghost use Rattle.heap_model.specs.CallState.{Configuration};
 ghost use Rattle.heap_model.specs.declared.Call.TheVariants as calls;
 ghost use Rattle.heap_model.specs.declared.Reply.{Reply};
-ghost use Rattle.heap_now.specs.Standing.{Stands};
+ghost use Rattle.solo_heap.specs.Standing.{Stands};
 ghost use Rattle.script_text.specs.Scripts.{commands_of, round_at};
 ghost use Rattle.command_run.specs.Values.{value_at};
 ghost use Rattle.command_run.specs.Commands.{unassigned, address_of, call_of, assigned, assigned_placed, assigned_moved, in_threads, in_rounds, round_commands, thread_commands};
@@ -11,7 +11,7 @@ ghost use Rattle.command_run.specs.Running.{IsServed, AreServed, Runs, RoundRuns
 
 use crate::values::Values;
 use heap_model::{Call, Flags, OutOfMemory, Reply};
-use heap_now::Solo;
+use solo_heap::Solo;
 use report_text::Answers;
 use script_text::{Command, CommandLine, Script, Target};
 use std::alloc::{AllocError, Global};

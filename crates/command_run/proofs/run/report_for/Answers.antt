@@ -18,7 +18,7 @@ use Rattle.layout_decode.specs.Decode.{decode}
 use Rattle.report_text.specs.Report.{report_of}
 use Rattle.report_text.specs.Image.{ranges_of}
 use Rattle.report_text.proofs.Ranges.{ranges_are}
-use Rattle.heap_now.specs.Standing.{setting_of}
+use Rattle.solo_heap.specs.Standing.{setting_of}
 use Rattle.command_run.specs.Commands.{unassigned, calls_of, in_rounds}
 use Rattle.command_run.specs.Words.{limits_of}
 use Rattle.command_run.proofs.ServedLemmas.{fit_served}

@@ -1,6 +1,6 @@
 use Rattle.std.proofs.Common.{sym, subst}
 use Rattle.heap_model.specs.declared.Call.{Call}
-use Rattle.heap_now.specs.Standing.{IsBuilt, Serves}
+use Rattle.solo_heap.specs.Standing.{IsBuilt, Serves}
 use Rattle.command_run.specs.Values.{value_at}
 use Rattle.command_run.proofs.RunLemmas.{runs_one}
 use Rattle.command_run.proofs.ServedLemmas.{call_built}

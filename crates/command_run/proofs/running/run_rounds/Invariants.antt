@@ -1,6 +1,6 @@
 use Rattle.std.proofs.Common.{take}
 use Rattle.heap_model.specs.CallState.{Configuration}
-use Rattle.heap_now.specs.Standing.{Stands}
+use Rattle.solo_heap.specs.Standing.{Stands}
 use Rattle.script_text.specs.Scripts.{commands_of}
 use Rattle.command_run.specs.Values.{value_at}
 use Rattle.command_run.specs.Commands.{unassigned, in_rounds}

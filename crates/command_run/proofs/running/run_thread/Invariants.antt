@@ -1,6 +1,6 @@
 use Rattle.std.proofs.Common.{◌≡◌, length, take}
 use Rattle.heap_model.specs.CallState.{Configuration}
-use Rattle.heap_now.specs.Standing.{Stands}
+use Rattle.solo_heap.specs.Standing.{Stands}
 use Rattle.command_run.specs.Values.{value_at}
 use Rattle.command_run.specs.Commands.{thread_commands}
 use Rattle.command_run.specs.Running.{Runs}

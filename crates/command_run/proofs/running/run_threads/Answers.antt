@@ -3,7 +3,7 @@ use Rattle.heap_model.specs.declared.Reply.{Reply}
 use Rattle.script_text.specs.declared.commands.Command.{Command}
 use Rattle.script_text.specs.ThreadLines.{ThreadLines}
 use Rattle.script_text.specs.Scripts.{command_of, round_at, thread_at, no_thread}
-use Rattle.heap_now.specs.Standing.{setting_of}
+use Rattle.solo_heap.specs.Standing.{setting_of}
 use Rattle.serial_laws.specs.OneCall.{end_of}
 use Rattle.command_run.specs.Values.{value_at}
 use Rattle.command_run.specs.Commands.{thread_commands, round_commands, in_threads, calls_of}
