@@ -1,0 +1,9 @@
+//! What all calls over the table share: the states of the layers with their locks, and how one call is put together.
+#![tactic(auto)]
+
+mod state;
+
+pub use state::{
+    State, give_back, give_back_denying, give_large, give_large_denying, give_vs, give_vs_denying,
+    take_back, take_large, take_vs,
+};
