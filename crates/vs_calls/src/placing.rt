@@ -7,8 +7,9 @@ ghost use Rattle.heap_model.specs.Shape.{Replied};
 ghost use Rattle.call_parts.specs.Calls.{HoldsVs, Brings};
 ghost use Rattle.vs_calls.specs.Blocks.{IsForVs, IsRefused};
 
-use call_parts::{State, give_back, give_vs, take_back};
 use backend_fit::Back;
+use call_parts::{State, give_back, give_vs, take_back};
+use data_words::clear;
 use heap_gate::{Caller, Heap, prepare, rest};
 use heap_model::{Act, AllocNo, Flags, Kind, Layer, Mark, SEGMENT_PAGES};
 use vs_layer::Vs;
@@ -72,7 +73,7 @@ fn hold_in_gap(c: &mut Caller<State>, vs: &mut Vs, n: u64) -> u64 {
 fn hold_in_span(c: &mut Caller<State>, vs: &mut Vs, back: &mut Back, n: u64) -> Option<u64> {
     let pages = Vs::span_pages(n);
     let reserved = back.region().reserved();
-    let first = back.take(pages, Mark::vs())?;
+    let first = back.take(pages, Mark::VS)?;
     if first / SEGMENT_PAGES >= reserved {
         prepare(c, Act::Reserve { segment: reserved });
     }
