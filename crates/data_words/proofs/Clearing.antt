@@ -11,14 +11,16 @@ use Rattle.data_words.specs.Clears.{clears, IsCleared}
 use Rattle.data_words.proofs.Copying.{AreData, none, store, runs_then, stands_then}
 
 -- one word more at the end
-pub zeros_more : (word count : ℕ) → zeros true word (count + 1) ≡ zeros true word count ++ acts.Store (word + count) 0 ∷ []
-zeros_more word zero = ap (λ (w : ℕ). acts.Store w 0 ∷ []) (omega arith)
-zeros_more word (suc count) =
+zeros_next : (word count : ℕ) → zeros true word (suc count) ≡ zeros true word count ++ acts.Store (word + count) 0 ∷ []
+zeros_next word zero = ap (λ (w : ℕ). acts.Store w 0 ∷ []) (omega arith)
+zeros_next word (suc count) =
     ap (λ (xs : List Act). acts.Store word 0 ∷ xs)
-    (zeros_more (word + 1) count ∙ ap (λ (w : ℕ). zeros true (word + 1) count ++ acts.Store w 0 ∷ []) (omega arith))
+    (zeros_next (word + 1) count ∙ ap (λ (w : ℕ). zeros true (word + 1) count ++ acts.Store w 0 ∷ []) (omega arith))
 
 clears_more : (n word count : ℕ) → clears n word (count + 1) ≡ clears n word count ++ entry n (acts.Store (word + count) 0) ∷ []
-clears_more n word count = ap (map (entry n)) (zeros_more word count) ∙ mapped (zeros true word count)
+clears_more n word count =
+    let e : count + 1 ≡ suc count = omega arith in
+    ap (clears n word) e ∙ (ap (map (entry n)) (zeros_next word count) ∙ mapped (zeros true word count))
   where
     mapped : (xs : List Act) → map (entry n) (xs ++ acts.Store (word + count) 0 ∷ []) ≡ map (entry n) xs ++ entry n (acts.Store (word + count) 0) ∷ []
     mapped [] = refl
@@ -33,18 +35,18 @@ cleared_more a b c word zero x y z =
     let e : word + 0 ≡ word = omega arith in
     let same : b ≡ a = x.none refl in
     record {
-      none = λ no. absurd (let bad : ⊥ = omega no in bad);
+      none = λ no. absurd (let bad : ⊥ = omega (arith, no) in bad);
       runs = λ _. subst (λ (t : Token). Runs t c (entry t.number (acts.Store word 0) ∷ [])) same (subst (λ (w : ℕ). Runs b c (entry b.number (acts.Store w 0) ∷ [])) e y);
       stands = λ _. subst (λ (t : Token). Stands c (stance t)) same z;
     }
 cleared_more a b c word (suc count) x y z =
     let many : ℕ = suc count in
-    let some : many ≢ 0 = λ e. let bad : ⊥ = omega e in bad in
+    let some : many ≢ 0 = λ e. let bad : ⊥ = omega (arith, e) in bad in
     let first = x.runs some in
     let more = entry a.number (acts.Store (word + many) 0) ∷ [] in
     let next = subst (λ (n : ℕ). Runs b c (entry n (acts.Store (word + many) 0) ∷ [])) first.does.number y in
     record {
-      none = λ no. absurd (let bad : ⊥ = omega no in bad);
+      none = λ no. absurd (let bad : ⊥ = omega (arith, no) in bad);
       runs = λ _. subst (Runs a c) (sym (clears_more a.number word many)) (runs_then a b c (clears a.number word many) more (store (word + many) 0 [] none) first next);
       stands = λ _. stands_then a b c (x.stands some) z;
     }

@@ -87,7 +87,7 @@ pub fn clear<T: Stands>(heap: &Heap<T>, c: &mut Caller<T>, word: u64, n: u64)
     ensures { IsCleared c.old c.new word n }
 {
     let _bounds = heap.limits();
-    for k in 0..n {
-        store(heap, c, word + k, 0);
+    for i in 0..n {
+        store(heap, c, word + i, 0);
     }
 }
