@@ -1,3 +1,4 @@
 pub mod Loading
 pub mod Copying
 pub mod Settled
+pub mod Clearing

@@ -13,6 +13,7 @@ ghost use Rattle.claim_rule.specs.Entries.{entry};
 ghost use Rattle.claim_rule.specs.Places.{data_count};
 ghost use Rattle.heap_gate.specs.Calls.{Runs, Stands as Standing, stance};
 ghost use Rattle.data_words.specs.Copies.{IsCopied};
+ghost use Rattle.data_words.specs.Clears.{IsCleared};
 
 use crate::steps::{load_by, store_by};
 use heap_gate::{Caller, Heap};
@@ -74,5 +75,19 @@ pub fn copy<T: Stands>(heap: &Heap<T>, c: &mut Caller<T>, from: u64, to: u64, n:
     for k in 0..n {
         let value = load(heap, c, from + k);
         store(heap, c, to + k, value);
+    }
+}
+
+/// Stores 0 into `n` data words, word by word in rising order.
+pub fn clear<T: Stands>(heap: &Heap<T>, c: &mut Caller<T>, word: u64, n: u64)
+    requires table { (c.old.table ≡ heap.now.table) × (c.old.opening ≡ heap.now.opening) }
+    requires whole { c.old.whole ≡ true }
+    requires inside { c.old.inside ≡ true }
+    requires there { word + n ≤ data_count c.old.opening.limits }
+    ensures { IsCleared c.old c.new word n }
+{
+    let _bounds = heap.limits();
+    for i in 0..n {
+        store(heap, c, word + i, 0);
     }
 }
