@@ -172,6 +172,7 @@ module _ {T : Type 0} where
           small = subst (λ (o : Opening). o.limits.callers < 65536) (sym t.opening) h.small;
           few_prepared = h.few_prepared;
           slot_is = ap (λ (y : List Assignment). slot_at y f.number) (sym t.roll_begins.1) ∙ (slot_before me.0.roll t.roll_begins.0 f.number h.known ∙ h.slot_is);
+          slot_few = subst (λ (o : Opening). slot < o.limits.slots) (sym t.opening) h.slot_few;
           draws = λ s q. subst (λ (x : List Entry). IsBeforeDraw s f.number ((search_marks (x ++ f.prepared)).made + Rattle.heap_gate.specs.Token.count f.drawn) stream) (sym t.own_is) (h.draws s (setting_was s q));
         }
 
@@ -300,9 +301,9 @@ module _ {T : Type 0} where
   -- the new caller has seen nothing
   pub fresh : (z : TableId) (o : Opening) (a : Assignment) (v : View) (R : List Assignment) (J : List ℕ) (L : List (List Entry)) (seed : ℕ) (g : Rattle.rand_pcg.specs.Lcg.Lcg) (me : Me (Option T) View) (made : ℕ)
       → v.role ≡ Root (record { counted = length R + 1; roll = R; joined = J; lists = L; last = 0 }) → v.opening ≡ o → me ≡ (dealt a v, []) → length R ≡ made
-      → length R < o.limits.callers → o.limits.callers ≤ 64 → seed ≡ o.seed → g ≡ Rattle.rand_pcg.specs.Lcg.started 64 Rattle.rand_pcg.specs.Pcg.multiplier_64 seed (Rattle.rand_pcg.specs.Lcg.increment_of 64 a.stream)
+      → length R < o.limits.callers → a.slot < o.limits.slots → o.limits.callers ≤ 64 → seed ≡ o.seed → g ≡ Rattle.rand_pcg.specs.Lcg.started 64 Rattle.rand_pcg.specs.Pcg.multiplier_64 seed (Rattle.rand_pcg.specs.Lcg.increment_of 64 a.stream)
       → IsCaller me (tok z me (record { number = made; prepared = []; pending = false; call = None; fresh = false; locked = false; inside = false; depth = 0; whole = true; free = true; drawn = false })) a.slot (Rattle.random_pick.specs.CallerDraws.words_of g)
-  fresh z o a v R J L seed g me made vr vo e len few small seeds made_by =
+  fresh z o a v R J L seed g me made vr vo e len few slot small seeds made_by =
       let role : me.0.role ≡ Caller made = ap (λ (m : Me (Option T) View). m.0.role) e ∙ (ap Rattle.claim_rule.specs.Rule.dealt_role vr ∙ ap Caller len) in
       let roll : me.0.roll ≡ R ++ a ∷ [] = ap (λ (m : Me (Option T) View). m.0.roll) e ∙ ap (λ (r : Role). Rattle.claim_rule.specs.Rule.roll_of r ++ a ∷ []) vr in
       let opening : me.0.opening ≡ o = ap (λ (m : Me (Option T) View). m.0.opening) e ∙ vo in
@@ -338,6 +339,7 @@ module _ {T : Type 0} where
         small = subst (λ (x : Opening). x.limits.callers < 65536) (sym opening) (omega arith);
         few_prepared = omega arith;
         slot_is = ap (λ (l : List Assignment). slot_at l made) roll ∙ (ap (slot_at (R ++ a ∷ [])) (sym len) ∙ slot_last a R);
+        slot_few = subst (λ (x : Opening). a.slot < x.limits.slots) (sym opening) slot;
         draws = λ s q. subst (λ (l : List Entry). IsBeforeDraw s made ((search_marks (own made l ++ [])).made + 0) (Rattle.random_pick.specs.CallerDraws.words_of g)) (sym seen)
             (Rattle.random_pick.proofs.DrawLemmas.is_made s made seed a.stream g
             (q.seed ∙ (ap (λ (x : Opening). x.seed) opening ∙ sym seeds))

@@ -229,6 +229,7 @@ module _ {T : Type 0} (z : TableId) (me : Me (Option T) View) (f : Face) (slot :
           small = h.small;
           few_prepared = let a = length-append f.prepared (entry f.number act ∷ []) in omega arith;
           slot_is = h.slot_is;
+          slot_few = h.slot_few;
           draws = λ s q. subst (λ (k : SearchMarks). IsBeforeDraw s f.number (k.made + count (is_unless_begun f.drawn act)) stream) (sym marked) (drawn_then s q);
         }
 
@@ -256,5 +257,6 @@ module _ {T : Type 0} (z : TableId) (me : Me (Option T) View) (f : Face) (slot :
     small = h.small;
     few_prepared = h.few_prepared;
     slot_is = h.slot_is;
+    slot_few = h.slot_few;
     draws = h.draws;
   }

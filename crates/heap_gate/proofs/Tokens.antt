@@ -226,6 +226,7 @@ module _ {T : Type 0} (z : TableId) (me : Me (Option T) View) (f : Face) (slot :
           small = subst (λ (o : Opening). o.limits.callers < 65536) (sym x.opening) h.small;
           few_prepared = few_left;
           slot_is = ap (λ (y : List Assignment). slot_at y f.number) (sym x.roll.1) ∙ (slot_before me.0.roll x.roll.0 f.number h.known ∙ h.slot_is);
+          slot_few = subst (λ (o : Opening). slot < o.limits.slots) (sym x.opening) h.slot_few;
           draws = λ s q. subst (λ (y : ℕ). IsBeforeDraw s f.number (y + count f.drawn) stream) (sym (ap (λ (y : SearchMarks). y.made) (marked k b) ∙ b.made_is)) (h.draws s (setting_before f.number me.0 me'.0 f.prepared ds x s q));
         }
 
@@ -313,5 +314,6 @@ module _ {T : Type 0} (z : TableId) (me : Me (Option T) View) (f : Face) (slot :
     small = h.small;
     few_prepared = h.few_prepared;
     slot_is = h.slot_is;
+    slot_few = h.slot_few;
     draws = h.draws;
   }

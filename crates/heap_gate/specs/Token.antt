@@ -152,4 +152,5 @@ pub record IsCaller {T : Type 0} (me : Me (Option T) View) (c : Token) (slot : �
   pub small : me.0.opening.limits.callers < 65536
   pub few_prepared : length c.prepared < 17
   pub slot_is : slot_at me.0.roll c.number ≡ slot
+  pub slot_few : slot < me.0.opening.limits.slots
   pub draws : (s : Setting) → IsSettingOf me.0.opening me.0.roll s → IsBeforeDraw s c.number (c.searches + count c.drawn) stream

@@ -89,6 +89,7 @@ impl<T: Stands> Caller<T> {
         ensures even { IsEven self.now }
         ensures legal { IsLegalWith self.now.opening self.now.roll self.now.seen }
         ensures few { self.now.number < self.now.opening.limits.callers }
+        ensures slot { slot_at self.now.roll self.now.number < self.now.opening.limits.slots }
     {
         let _number = self.number;
     }

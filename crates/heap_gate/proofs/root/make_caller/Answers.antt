@@ -27,8 +27,9 @@ invariant_of-result g c =
     let roll : roll_in r.place.me.0.role ≡ c.args.root.now.roll = ap (λ (t : RootToken). t.roll) c.root.view_is in
     let same : c.args.heap.now.opening ≡ h.opening = ap (λ (t : HeapToken). t.opening) (sym c.heap.view_is) in
     let few = subst (λ (x : List Assignment × Opening). length x.0 < x.1.limits.callers) (λ j. (sym roll j, same j)) c.requires.room in
+    let slot = subst (λ (x : Opening). c.args.slot < x.limits.slots) same c.requires.slot in
     let seed : c.args.seed ≡ h.opening.seed = c.requires.seed ∙ ap (λ (x : Opening). x.seed) same in
     let f = fresh c.deal-place.result.table_id h.opening a c.count.new.place.me.0 (roll_in r.place.me.0.role) (joined_of r.place.me.0.role) (lists_of r.place.me.0.role) c.args.seed c.new-3.result c.deal-place.result.me r.made
     (counted_role r.place.me c.count.new.place.me r.made c.count.ensures.told.0 st k c.count.ensures.told.1)
-    (c.count.ensures.told.1.opening ∙ opened) c.deal-place.ensures.seat.1 k.count_is few c.heap.invariant.valid.callers seed (c.new-3.ensures ∙ c.new-2.ensures) in
+    (c.count.ensures.told.1.opening ∙ opened) c.deal-place.ensures.seat.1 k.count_is few slot c.heap.invariant.valid.callers seed (c.new-3.ensures ∙ c.new-2.ensures) in
     subst (λ (x : List Entry). IsCaller c.deal-place.result.me (tok c.deal-place.result.table_id c.deal-place.result.me (record { number = r.made; prepared = x; pending = false; call = None; fresh = false; locked = false; inside = false; depth = 0; whole = true; free = true; drawn = false })) c.args.slot (words_of c.new-3.result)) (sym c.new.ensures) f

@@ -1,5 +1,5 @@
-use Rattle.std.proofs.Common.{◌<◌, subst}
-use Rattle.claim_rule.specs.Entries.{IsLegalWith}
+use Rattle.std.proofs.Common.{ℕ, ◌<◌, sym, subst}
+use Rattle.claim_rule.specs.Entries.{IsLegalWith, slot_at}
 use Rattle.heap_gate.specs.Token.{Token, IsStanding, IsEven}
 use Rattle.heap_gate.proofs.caller.Caller.check.Goals as goal
 
@@ -14,3 +14,8 @@ returns-clause-legal g c = subst (λ (t : Token). IsLegalWith t.opening t.roll t
 
 pub returns-clause-few : goal.returns-clause-few
 returns-clause-few g c = subst (λ (t : Token). t.number < t.opening.limits.callers) c.self.view_is c.self.invariant.few
+
+pub returns-clause-slot : goal.returns-clause-slot
+returns-clause-slot g c =
+    let i = c.self.invariant in
+    subst (λ (t : Token). slot_at t.roll t.number < t.opening.limits.slots) c.self.view_is (subst (λ (x : ℕ). x < c.self.inside.place.me.0.opening.limits.slots) (sym i.slot_is) i.slot_few)
