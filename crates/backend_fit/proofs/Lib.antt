@@ -1,4 +1,7 @@
 pub mod Least
+pub mod Bits
+pub mod Starts
+pub mod Better
 pub mod BestFit
 pub mod KindLemmas
 pub mod Tiled

@@ -12,32 +12,35 @@
 #![tactic(auto)]
 
 pub mod laws;
+mod page_bits;
+mod ranges;
+mod search;
 
 ghost use Rattle.std.specs.Prelude.{◌≡◌, ◌+◌, ◌*◌, ◌<◌, ◌≤◌, Option, option_map, None, Some, IfSome, IfNone, IfOk, IsSome, is_some, nat_le, count_by, true, false, length, [], if◌then◌else◌};
 ghost use Rattle.std.specs.Bool.{OnTrue, OnFalse};
 ghost use Rattle.std.specs.List.{find};
 ghost use Rattle.heap_model.specs.declared.Kind.TheVariants as kinds;
 ghost use Rattle.heap_model.specs.Limits.{AreValid};
-ghost use Rattle.heap_model.specs.Runs.{fitting, least};
 ghost use Rattle.heap_model.specs.declared.Opening.{Opening};
 ghost use Rattle.heap_model.specs.Layers.{StandsForBack};
 ghost use Rattle.heap_model.specs.State.{change_found, remove_found, opening};
-ghost use Rattle.heap_model.specs.Backend.{numbers, is_usable, free_runs, is_better, back_place, next_segment};
+ghost use Rattle.heap_model.specs.Backend.{numbers, is_usable, back_place, next_segment};
 ghost use Rattle.heap_model.specs.Search.{span_at};
 ghost use Rattle.heap_model.specs.Legal.{with_span, with_area};
 ghost use Rattle.page_ranges.specs.Words.{runs_of};
 ghost use Rattle.page_ranges.specs.Ranges.{IsWhole, has_page};
-ghost use Rattle.page_ranges.specs.Spans.{is_of_free, plain};
+ghost use Rattle.page_ranges.specs.Spans.{is_of_free};
 ghost use Rattle.backend_fit.specs.Pages.{pages_area, taken_in};
 ghost use Rattle.backend_fit.specs.Kept.{area_of, spans_of, layer_of, Becomes};
 ghost use Rattle.backend_fit.specs.Effects.{part_with, part_without, part_resized, with_segment, marked_run, marked_span, insert_run, starts_at, with_mark, without_span, with_size, reach_of, is_idle, decommitted};
 ghost use Rattle.heap_model.specs.Marks.{back_mark};
 ghost use Rattle.backend_fit.specs.Sound.{AreSound, IsSound, IsFreeRun, IsSpan, IsSpanMark, start_of, end_of};
-ghost use Rattle.backend_fit.specs.Best.{with_run};
 
 use heap_model::{HEADER_PAGES, Kind, Limits, Mark, OutOfMemory, Run, SEGMENT_PAGES, Stands};
 use page_ranges::Descs;
 use page_region::Region;
+use ranges::Ranges;
+use search::best_fit;
 use std::alloc::Global;
 use std::marker::Model;
 
@@ -50,7 +53,7 @@ use std::marker::Model;
 pub struct Back {
     limits: Limits,
     region: Region,
-    descs: Descs,
+    descs: Ranges,
 }
 
 impl Model for Back {
@@ -80,7 +83,7 @@ impl Back {
         ensures stands { IfOk result (λ b. (o : Opening) → o.limits ≡ limits.now → StandsForBack o opening (layer_of b)) }
     {
         let region = Region::new(alloc, limits)?;
-        let descs = Descs::new(alloc, limits)?;
+        let descs = Ranges::new(alloc, limits)?;
         Ok(Back {
             limits: *limits,
             region,
@@ -101,7 +104,7 @@ impl Back {
         ensures words { result.now ≡ self.now.words }
         ensures sound { IsSound self.now }
     {
-        &self.descs
+        self.descs.descs()
     }
 
     /// The region and the descriptors, unchanged.
@@ -115,7 +118,7 @@ impl Back {
             region,
             descs,
         } = self;
-        (region, descs)
+        (region, descs.into_descs())
     }
 
     /// The span or free run that a page belongs to; `None` where the page is beyond the segments, not reserved, or a header
@@ -139,7 +142,7 @@ impl Back {
     }
 
     /// Takes `n` pages where they fit best, commits them, and answers the first of them. Where they have no place it answers
-    /// `None`, and nothing changes.
+    /// `None`, and nothing changes. It looks at free runs alone, and at none of them where all are known to be shorter.
     pub fn take(&mut self, n: u32, mark: Mark) -> Option<u32>
         requires some { 0 < n }
         requires mark { IsSpanMark mark }
@@ -205,7 +208,7 @@ impl Back {
 }
 
 /// Decommits each free run.
-fn sweep(region: &mut Region, descs: &Descs) -> u32
+fn sweep(region: &mut Region, descs: &Ranges) -> u32
     requires { AreSound (record { region = region.old; words = descs.now }) }
     ensures cleared { result ≡ count_by (is_idle (pages_area (record { region = region.old; words = descs.now }))) (numbers 0 (256 * region.old.reserved)) }
     ensures area { pages_area (record { region = region.new; words = descs.now }) ≡ decommitted (pages_area (record { region = region.old; words = descs.now })) }
@@ -226,7 +229,7 @@ fn sweep(region: &mut Region, descs: &Descs) -> u32
 }
 
 /// Makes a block n pages long; what is left up to a later page becomes free.
-fn resize_run(region: &mut Region, descs: &mut Descs, run: Run, end: u32, n: u32, unused: u16)
+fn resize_run(region: &mut Region, descs: &mut Ranges, run: Run, end: u32, n: u32, unused: u16)
     requires sound { AreSound (record { region = region.old; words = descs.old }) }
     requires span { IsSpan descs.old run }
     requires kind { run.mark.kind ≡ kinds.Back }
@@ -247,7 +250,7 @@ fn resize_run(region: &mut Region, descs: &mut Descs, run: Run, end: u32, n: u32
 }
 
 /// Makes a span free, joined with the free runs beside it.
-fn free_run(region: &Region, descs: &mut Descs, run: Run)
+fn free_run(region: &Region, descs: &mut Ranges, run: Run)
     requires sound { AreSound (record { region = region.now; words = descs.old }) }
     requires span { IsSpan descs.old run }
     ensures area { pages_area (record { region = region.now; words = descs.new }) ≡ without_span (pages_area (record { region = region.now; words = descs.old })) run.first }
@@ -260,7 +263,7 @@ fn free_run(region: &Region, descs: &mut Descs, run: Run)
 }
 
 /// Where the free run begins that ends before a page, or this page.
-fn start_with_free(descs: &Descs, page: u32) -> u32
+fn start_with_free(descs: &Ranges, page: u32) -> u32
     requires whole { IsWhole descs.now }
     requires some { 0 < page }
     requires inside { page < length descs.now }
@@ -275,7 +278,7 @@ fn start_with_free(descs: &Descs, page: u32) -> u32
 }
 
 /// Where the free run ends that begins at a page, or this page.
-fn end_with_free(descs: &Descs, page: u32) -> u32
+fn end_with_free(descs: &Ranges, page: u32) -> u32
     requires whole { IsWhole descs.now }
     requires inside { page ≤ length descs.now }
     ensures { result ≡ end_of descs.now page }
@@ -298,8 +301,9 @@ fn can_open(region: &Region, n: u32) -> bool
 }
 
 /// A free run for n pages, in another segment where no run fits.
-fn find_room(region: &mut Region, descs: &mut Descs, n: u32) -> Option<Run>
-    requires { AreSound (record { region = region.old; words = descs.old }) }
+fn find_room(region: &mut Region, descs: &mut Ranges, n: u32) -> Option<Run>
+    requires sound { AreSound (record { region = region.old; words = descs.old }) }
+    requires some { 0 < n }
     ensures place { option_map (λ r. r.first) result ≡ back_place (pages_area (record { region = region.old; words = descs.old })) region.old.segments n }
     ensures none { IfNone result ((region.new ≡ region.old) × (descs.new ≡ descs.old)) }
     ensures area { IfSome result (λ r. pages_area (record { region = region.new; words = descs.new }) ≡ with_segment (pages_area (record { region = region.old; words = descs.old })) r.first) }
@@ -310,12 +314,15 @@ fn find_room(region: &mut Region, descs: &mut Descs, n: u32) -> Option<Run>
 {
     match best_fit(region, descs, n) {
         Some(run) => Some(run),
-        None => open_next(region, descs, n),
+        None => {
+            descs.none_has(n);
+            open_next(region, descs, n)
+        }
     }
 }
 
 /// The free run of the next segment, where it has n pages.
-fn open_next(region: &mut Region, descs: &mut Descs, n: u32) -> Option<Run>
+fn open_next(region: &mut Region, descs: &mut Ranges, n: u32) -> Option<Run>
     requires { AreSound (record { region = region.old; words = descs.old }) }
     ensures place { option_map (λ r. r.first) result ≡ next_segment (pages_area (record { region = region.old; words = descs.old })) region.old.segments n }
     ensures none { IfNone result ((region.new ≡ region.old) × (descs.new ≡ descs.old)) }
@@ -338,7 +345,7 @@ fn open_next(region: &mut Region, descs: &mut Descs, n: u32) -> Option<Run>
 }
 
 /// Makes the front of a free run a span of n pages, and commits them.
-fn place(region: &mut Region, descs: &mut Descs, run: Run, n: u32, mark: Mark)
+fn place(region: &mut Region, descs: &mut Ranges, run: Run, n: u32, mark: Mark)
     requires sound { AreSound (record { region = region.old; words = descs.old }) }
     requires free { IsFreeRun descs.old run.first run.pages }
     requires some { 0 < n }
@@ -354,66 +361,6 @@ fn place(region: &mut Region, descs: &mut Descs, run: Run, n: u32, mark: Mark)
         descs.mark(run.first + n, run.pages - n, Mark::FREE);
     }
     region.commit(run.first, n);
-}
-
-/// The free run that a request for n pages takes the front of.
-fn best_fit(region: &Region, descs: &Descs, n: u32) -> Option<Run>
-    requires { AreSound (record { region = region.now; words = descs.now }) }
-    ensures { let a = pages_area (record { region = region.now; words = descs.now }) in option_map plain result ≡ least (is_better a) (fitting n (free_runs a)) }
-{
-    let end = SEGMENT_PAGES * region.reserved();
-    let mut best = None;
-    let mut page = 0;
-    while page < end {
-        let run = descs.run_at(page);
-        best = better_of(region, best, run, n);
-        page += run.pages;
-    }
-    best
-}
-
-fn better_of(region: &Region, best: Option<Run>, run: Run, n: u32) -> Option<Run>
-    requires run { run.first + run.pages ≤ 256 * region.now.segments }
-    requires best { IfSome best (λ b. b.first + b.pages ≤ 256 * region.now.segments) }
-    ensures best { option_map plain result ≡ with_run (is_better (pages_area (record { region = region.now; words = [] }))) n (option_map plain best) run }
-    ensures inside { IfSome result (λ b. b.first + b.pages ≤ 256 * region.now.segments) }
-{
-    if !is_free(run.mark.kind) || run.pages < n {
-        return best;
-    }
-    match best {
-        Some(other) => Some(better(region, run, other)),
-        None => Some(run),
-    }
-}
-
-fn better(region: &Region, run: Run, other: Run) -> Run
-    requires run { run.first + run.pages ≤ 256 * region.now.segments }
-    requires other { other.first + other.pages ≤ 256 * region.now.segments }
-    ensures { result ≡ (if is_better (pages_area (record { region = region.now; words = [] })) (plain run) (plain other) then run else other) }
-{
-    if is_better(region, run, other) {
-        run
-    } else {
-        other
-    }
-}
-
-/// The shorter comes first; of equal lengths the one with more committed pages; then the lower.
-fn is_better(region: &Region, run: Run, other: Run) -> bool
-    requires run { run.first + run.pages ≤ 256 * region.now.segments }
-    requires other { other.first + other.pages ≤ 256 * region.now.segments }
-    ensures { result ≡ is_better (pages_area (record { region = region.now; words = [] })) (plain run) (plain other) }
-{
-    if run.pages != other.pages {
-        return run.pages < other.pages;
-    }
-    let committed = region.count_committed(run.first, run.pages);
-    let other_committed = region.count_committed(other.first, other.pages);
-    if committed != other_committed {
-        return other_committed < committed;
-    }
-    run.first < other.first
 }
 
 fn is_free(kind: Kind) -> bool

@@ -1,4 +1,6 @@
+pub mod FillLemmas
 pub mod TableLemmas
+pub mod Written
 pub mod TileLemmas
 pub mod TiledLemmas
 pub mod RowLemmas

@@ -70,6 +70,10 @@ module _ (key : ℕ) (ws : List ℕ) (ss : List Bool) (kept : AreKept key ws ss)
   pub head_past : (g : ℕ) → length ws ≤ g → head_at told_here g ≡ None
   head_past g past = get_or_past told_here.heads g None (subst (λ n. n ≤ g) (sym granules) past)
 
+  -- no chunk where there is no mark
+  pub unmarked_none : (g : ℕ) → get_or ss g false ≡ false → head_at told_here g ≡ None
+  unmarked_none g e = elim (cases_lt g (length ws)) [ inl within ↦ head_unmarked g within e | inr past ↦ head_past g past ]
+
   word_within : (g : ℕ) → g < length ws → word_at told_here g ≡ get_or ws g 0
   word_within g within =
       ap (λ o. option_map_or (λ h. encoded h key (16 * g)) o 0) (head_is g within) ∙ word_told g (get_or ws g 0) (get_or ss g false) (kept.each g within)

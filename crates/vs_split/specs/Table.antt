@@ -1,5 +1,5 @@
 -- Header words and marks, as they are kept.
-use Rattle.std.specs.Prelude.{◌≡◌, ℕ, suc, ◌*◌, ◌^◌, ◌<◌, Bool, true, false, List, [], ◌∷◌, length, slice_index, Option, None}
+use Rattle.std.specs.Prelude.{◌≡◌, ℕ, suc, ◌*◌, ◌^◌, ◌<◌, Bool, true, false, ◌-◌, List, [], ◌∷◌, ◌++◌, length, replicate, slice_index, Option, None}
 use Rattle.std.specs.List.{slice_index_or}
 use Rattle.vs_headers.specs.declared.Head.{Head}
 use Rattle.vs_headers.specs.Headers.{IsHead, encoded, decoded}
@@ -18,6 +18,14 @@ all_told key g (w ∷ ws) (s ∷ ss) = told key g w s ∷ all_told key (suc g) w
 
 abbrev pub chunks_told : ℕ → List ℕ → List Bool → Chunks
 chunks_told key words starts = record { key = key; heads = all_told key 0 words starts }
+
+-- a list of so many elements, those behind the ones that it has all equal
+abbrev pub filled_up : {A : Type 0} → ℕ → A → List A → List A
+filled_up n x xs = xs ++ replicate (n - length xs) x
+
+-- .. where those behind the last that are kept count as 0 and as not marked
+abbrev pub chunks_kept : ℕ → ℕ → List ℕ → List Bool → Chunks
+chunks_kept key granules words starts = chunks_told key (filled_up granules 0 words) (filled_up granules false starts)
 
 -- a marked word is that of a head, and one without a mark is 0
 abbrev pub IsKeptAs : ℕ → ℕ → ℕ → Bool → Type 0

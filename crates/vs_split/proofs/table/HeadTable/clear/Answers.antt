@@ -1,23 +1,28 @@
-use Rattle.std.proofs.Common.{false, length, None, refl, sym, ap, ◌∙◌, arith}
-use Rattle.std.proofs.Math.ListN.{length-set}
-use Rattle.vs_split.specs.Chunks.{Chunks, with_head}
-use Rattle.vs_split.proofs.TableLemmas.{granules, kept_set, told_with}
+use Rattle.std.proofs.Common.{◌<◌, false, None, refl, ◌∙◌, arith}
+use Rattle.vs_split.proofs.Written.{IsTable, all_granules, written, written_view}
 use Rattle.vs_split.proofs.table.HeadTable.clear.Goals as goal
+use Rattle.vs_split.proofs.table.HeadTable.clear.Goals.{After-fill_up-2}
 
-pub index_mut-requires : goal.index_mut-requires
-index_mut-requires c = omega (arith, c.requires, ap (λ (v : Chunks). length v.heads) c.self.view_is, granules c.self.inside.key c.self.inside.words.items c.self.inside.starts.items c.self.invariant.0)
+before : (c : After-fill_up-2) → IsTable c.self.inside.key c.self.inside.granules c.self.inside.words.items c.self.inside.starts.items
+before c = record { kept = c.self.invariant.0; few = c.self.invariant.3; same = c.self.invariant.4 }
 
-pub index_mut-requires-2 : goal.index_mut-requires-2
-index_mut-requires-2 c = omega (arith, c.requires, ap (λ (v : Chunks). length v.heads) c.self.view_is, granules c.self.inside.key c.self.inside.words.items c.self.inside.starts.items c.self.invariant.0, c.self.invariant.0.as_long)
+inside : (c : After-fill_up-2) → c.args.granule < c.self.inside.granules
+inside c = omega (arith, c.requires, all_granules c.self.inside.key c.self.inside.granules c.self.inside.words.items c.self.inside.starts.items (before c) c.args.self.now c.self.view_is)
+
+pub fill_up-requires : goal.fill_up-requires
+fill_up-requires c =
+    let t : IsTable c.self.inside.key c.self.inside.granules c.self.inside.words.items c.self.inside.starts.items = record { kept = c.self.invariant.0; few = c.self.invariant.3; same = c.self.invariant.4 } in
+    omega (arith, c.requires, c.self.invariant.1, all_granules c.self.inside.key c.self.inside.granules c.self.inside.words.items c.self.inside.starts.items t c.args.self.now c.self.view_is)
 
 pub invariant_of-self : goal.invariant_of-self
-invariant_of-self c = (
-  kept_set c.self.inside.key c.self.inside.words.items c.self.inside.starts.items c.self.invariant.0 c.args.granule 0 false (omega (arith, c.requires, ap (λ (v : Chunks). length v.heads) c.self.view_is, granules c.self.inside.key c.self.inside.words.items c.self.inside.starts.items c.self.invariant.0)) refl,
-  c.self.invariant.1 ∙ sym (length-set c.self.inside.words.items c.args.granule 0),
-  c.self.invariant.2 ∙ sym (length-set c.self.inside.starts.items c.args.granule false),
-)
+invariant_of-self c =
+    let d = (goal.at.invariant_of-self c).After-fill_up-2 in
+    let w = written c.self.inside.key c.self.inside.granules c.self.inside.words.items c.self.inside.starts.items (before d) c.args.granule 0 false c.fill_up.new.values.items c.fill_up-2.new.values.items (inside d)
+    c.fill_up.ensures.items c.fill_up-2.ensures.items refl in
+    (w.kept, c.fill_up.ensures.room ∙ c.self.invariant.1, c.fill_up-2.ensures.room ∙ c.self.invariant.2, w.few, w.same)
 
 pub returns : goal.returns
 returns c =
-    told_with c.self.inside.key c.self.inside.words.items c.self.inside.starts.items c.self.invariant.0 c.args.granule 0 false None refl
-    ∙ ap (λ (v : Chunks). with_head v c.args.granule None) c.self.view_is
+    let d = (goal.at.returns c).After-fill_up-2 in
+    written_view c.self.inside.key c.self.inside.granules c.self.inside.words.items c.self.inside.starts.items (before d) c.args.granule 0 false c.fill_up.new.values.items c.fill_up-2.new.values.items (inside d)
+    c.fill_up.ensures.items c.fill_up-2.ensures.items refl c.args.self.now None c.self.view_is refl

@@ -1,15 +1,12 @@
-use Rattle.std.proofs.Common.{◌≡◌, false, replicate, arith, rules}
-use Rattle.vs_split.proofs.TableLemmas.{chunks_empty, kept_empty}
+use Rattle.std.proofs.Common.{◌≡◌, false, List, ℕ, Bool, replicate, ap, ◌∙◌}
+use Rattle.vs_split.specs.Table.{filled_up}
+use Rattle.vs_split.proofs.FillLemmas.{empty_filled}
+use Rattle.vs_split.proofs.TableLemmas.{chunks_empty}
 use Rattle.vs_split.proofs.table.HeadTable.new.Goals as goal
-
-pub invariant_of-result : goal.invariant_of-result
-invariant_of-result c =
-    let words : c.in_ok-words.words.items ≡ replicate c.args.granules 0 = search rules in
-    let starts : c.in_ok-starts.starts.items ≡ replicate c.args.granules false = search rules in
-    (kept_empty c.args.key c.args.granules _ _ (omega arith) words starts, search rules, search rules)
 
 pub returns : goal.returns
 returns c =
-    let words : c.in_ok-words.words.items ≡ replicate c.args.granules 0 = search rules in
-    let starts : c.in_ok-starts.starts.items ≡ replicate c.args.granules false = search rules in
-    chunks_empty c.args.key c.args.granules _ _ words starts
+    let n = c.args.granules in
+    let words : filled_up n 0 c.in_ok-words.words.items ≡ replicate n 0 = ap (λ (xs : List ℕ). filled_up n 0 xs) c.in_ok-words.ensures.items ∙ empty_filled n 0 in
+    let starts : filled_up n false c.in_ok-starts.starts.items ≡ replicate n false = ap (λ (xs : List Bool). filled_up n false xs) c.in_ok-starts.ensures.items ∙ empty_filled n false in
+    chunks_empty c.args.key n _ _ words starts

@@ -1,7 +1,9 @@
-use Rattle.std.proofs.Common.{◌≡◌, ℕ, get_or, sym, ap, ◌∙◌, arith}
+use Rattle.std.proofs.Common.{◌≡◌, ℕ, false, get_or, sym, ap, ◌∙◌, arith}
 use denote.Ref.{Bor}
 use Rattle.std.specs.Option.{unwrap_or, option_map}
 use Rattle.vs_split.specs.Chunks.{Chunks, word_at}
+use Rattle.vs_split.specs.Table.{filled_up}
+use Rattle.vs_split.proofs.FillLemmas.{get_or_filled}
 use Rattle.vs_split.proofs.TableLemmas.{word_is}
 use Rattle.vs_split.proofs.table.HeadTable.word.Goals as goal
 
@@ -13,5 +15,6 @@ returns c =
     ∙ ap (λ o. unwrap_or o 0) c.copied.ensures
     ∙ read 0
     ∙ ap (λ l. get_or l c.args.granule 0) c.deref.ensures.value
-    ∙ sym (word_is c.self.inside.key c.self.inside.words.items c.self.inside.starts.items c.self.invariant.0 c.args.granule)
+    ∙ sym (get_or_filled c.self.inside.granules c.args.granule 0 words)
+    ∙ sym (word_is c.self.inside.key (filled_up c.self.inside.granules 0 words) (filled_up c.self.inside.granules false c.self.inside.starts.items) c.self.invariant.0 c.args.granule)
     ∙ ap (λ (v : Chunks). word_at v c.args.granule) c.self.view_is
