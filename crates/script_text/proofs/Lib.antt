@@ -1,6 +1,8 @@
 pub mod FieldLemmas
 pub mod NumberLemmas
 pub mod NameLemmas
+pub mod KeyLemmas
+pub mod NumberedLemmas
 pub mod PieceLemmas
 pub mod OrderLemmas
 pub mod SaidLemmas

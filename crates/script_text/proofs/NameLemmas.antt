@@ -1,15 +1,9 @@
 -- The numbers of names, one name after another.
-use Rattle.std.proofs.Common.{◌≡◌, ℕ, ◌+◌, Bool, true, false, ◌||◌, cond, List, [], ◌∷◌, ◌++◌, Option, Some, None, refl, ap, sym, ◌∙◌, arith, inl, inr}
-use Rattle.std.specs.List.{list_any}
+use Rattle.std.proofs.Common.{◌≡◌, ℕ, ◌+◌, Bool, true, false, ◌||◌, cond, List, [], ◌∷◌, ◌++◌, Some, None, refl, ap, sym, ◌∙◌, arith, inl, inr}
 use Rattle.std.specs.Str.{bytes_eq}
-use Rattle.std.specs.Ordering.{nat_cmp}
-use Rattle.std.specs.Cmp.Lexicographic.{slice_cmp}
-use Rattle.std.specs.BTreeMap.{BTreeMap, get_by, btree_map_len, UpdatesBy}
-use Rattle.std.specs.Borrow.{Bor}
 use Rattle.std.proofs.lemmas.Bool.{cases_Bool, and_parts, eqb-true, eq-eqb, false_from_ne_true}
 use Rattle.std.proofs.lemmas.List.Folds.{list_any-append}
-use Rattle.std.proofs.lemmas.Map.Text.{btree_map_updates_str}
-use Rattle.script_text.specs.Names.{is_among, different, before_name, number_of_name, AreNumbered}
+use Rattle.script_text.specs.Names.{is_among, different, before_name}
 use Rattle.std.proofs.Common.{eqb}
 
 pub same_bytes : (xs ys : List ℕ) → bytes_eq xs ys ≡ true → xs ≡ ys
@@ -26,20 +20,20 @@ pub bytes_same : (xs : List ℕ) → bytes_eq xs xs ≡ true
 bytes_same [] = refl
 bytes_same (x ∷ xs) = rw (eq-eqb x x refl) (bytes_same xs)
 
-bytes_back : (xs ys : List ℕ) → bytes_eq xs ys ≡ false → bytes_eq ys xs ≡ false
+pub bytes_back : (xs ys : List ℕ) → bytes_eq xs ys ≡ false → bytes_eq ys xs ≡ false
 bytes_back xs ys h = false_from_ne_true (bytes_eq ys xs) (λ k.
     let e = same_bytes ys xs k in
     let f = rw (e, bytes_same xs) at h in absurd (let z : ⊥ = cc in z))
 
-or_false : (b : Bool) → (b || false) ≡ b
+pub or_false : (b : Bool) → (b || false) ≡ b
 or_false true = refl
 or_false false = refl
 
-or_true : (b : Bool) → (b || true) ≡ true
+pub or_true : (b : Bool) → (b || true) ≡ true
 or_true true = refl
 or_true false = refl
 
-among_push : (names : List (List ℕ)) (x q : List ℕ) → is_among (names ++ x ∷ []) q ≡ (is_among names q || bytes_eq q x)
+pub among_push : (names : List (List ℕ)) (x q : List ℕ) → is_among (names ++ x ∷ []) q ≡ (is_among names q || bytes_eq q x)
 among_push names x q = list_any-append (bytes_eq q) names (x ∷ []) ∙ ap (λ b. is_among names q || b) (or_false (bytes_eq q x))
 
 pub before_known : (q : List ℕ) (names more : List (List ℕ)) → is_among names q ≡ true → before_name q (names ++ more) ≡ before_name q names
@@ -77,58 +71,10 @@ different_push (y ∷ ys) x = elim (cases_Bool (bytes_eq y x)) [
     at_other true b m n h = h
     at_other false b m n h = omega arith
 
-abbrev pub at : (BTreeMap (Bor (List ℕ)) ℕ) → List ℕ → Option ℕ
-at m x = get_by (λ k. slice_cmp nat_cmp x k.now) m
-
-if_some : {A : Type 0} (b : Bool) (x y : A) → cond b (Some x) None ≡ Some y → (b ≡ true) × (x ≡ y)
+pub if_some : {A : Type 0} (b : Bool) (x y : A) → cond b (Some x) None ≡ Some y → (b ≡ true) × (x ≡ y)
 if_some true x y h = (refl, let e : x ≡ y = cc in e)
 if_some false x y h = absurd (let z : ⊥ = cc in z)
 
-if_none : {A : Type 0} (b : Bool) (x : A) → cond b (Some x) None ≡ None → b ≡ false
+pub if_none : {A : Type 0} (b : Bool) (x : A) → cond b (Some x) None ≡ None → b ≡ false
 if_none true x h = absurd (let z : ⊥ = cc in z)
 if_none false x h = refl
-
--- a name that stood before
-pub known : (m : BTreeMap (Bor (List ℕ)) ℕ) (names : List (List ℕ)) (x : List ℕ) (n : ℕ) → AreNumbered m names → at m x ≡ Some n → AreNumbered m (names ++ x ∷ []) × (n ≡ number_of_name (names ++ x ∷ []) x)
-known m names x n h e =
-    let k = if_some (is_among names x) (number_of_name names x) n (sym (h.found x) ∙ e) in (
-      record {
-        found = λ q. h.found q ∙ sym (elim (cases_Bool (is_among names q)) [
-          | inl a ↦ rw (among_push names x q, a, before_known q names (x ∷ []) a) refl
-          | inr a ↦ elim (cases_Bool (bytes_eq q x)) [
-            | inl b ↦
-                let s : q ≡ x = same_bytes q x b in
-                let f : is_among names q ≡ true = ap (is_among names) s ∙ k.0 in
-                absurd (let z : ⊥ = cc in z)
-            | inr b ↦ rw (among_push names x q, a, b) refl
-          ]
-        ]);
-        count = rw (different_push names x, k.0) (omega (arith, h.count));
-      },
-      rw (before_known x names (x ∷ []) k.0) (sym k.1),
-    )
-
--- a name that stands here first
-pub fresh : (m m' : BTreeMap (Bor (List ℕ)) ℕ) (names : List (List ℕ)) (x : List ℕ) (n : ℕ) → AreNumbered m names → at m x ≡ None → n ≡ btree_map_len m → btree_map_len m' ≡ btree_map_len m + 1 →
-    UpdatesBy (λ a b. slice_cmp nat_cmp a.now b.now) (λ k. slice_cmp nat_cmp x k.now) m m' (Some n) →
-    AreNumbered m' (names ++ x ∷ []) × (n ≡ number_of_name (names ++ x ∷ []) x)
-fresh m m' names x n h e is len u =
-    let k = if_none (is_among names x) (number_of_name names x) (sym (h.found x) ∙ e) in
-    let new : number_of_name (names ++ x ∷ []) x ≡ different names = ap different (before_new x names [] k) in
-    let number : n ≡ number_of_name (names ++ x ∷ []) x = is ∙ h.count ∙ sym new in (
-      record {
-        found = λ q. btree_map_updates_str x m m' (Some n) u q ∙ elim (cases_Bool (bytes_eq x q)) [
-          | inl b ↦
-              let s : q ≡ x = sym (same_bytes x q b) in
-              rw (b, among_push names x q, s, bytes_same x, or_true (is_among names x)) (ap Some number)
-          | inr b ↦
-              let back = bytes_back x q b in
-              rw (b, among_push names x q, back, or_false (is_among names q)) (h.found q ∙ elim (cases_Bool (is_among names q)) [
-                | inl a ↦ rw (a, before_known q names (x ∷ []) a) refl
-                | inr a ↦ rw a refl
-              ])
-        ];
-        count = rw (different_push names x, k) (len ∙ ap (λ i. i + 1) h.count);
-      },
-      number,
-    )

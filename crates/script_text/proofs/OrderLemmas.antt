@@ -1,5 +1,5 @@
 -- One line more behind counted lines.
-use Rattle.std.proofs.Common.{◌≡◌, ℕ, ◌+◌, ◌-◌, Bool, true, false, cond, max, eqb, List, [], ◌∷◌, ◌++◌, Option, Some, None, refl, sym, arith, inl, inr}
+use Rattle.std.proofs.Common.{◌≡◌, ℕ, ◌+◌, Bool, true, false, cond, max, eqb, List, [], ◌∷◌, ◌++◌, Option, Some, None, refl, sym, arith, inl, inr}
 use Rattle.std.specs.Prelude.{count_by}
 use Rattle.std.proofs.lemmas.Bool.{cases_Bool, eqb-false}
 use Rattle.script_text.specs.Pieces.{behind_last}

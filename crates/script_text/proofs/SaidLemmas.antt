@@ -1,19 +1,21 @@
 -- What a line says, by its first five fields.
-use Rattle.std.proofs.Common.{◌≡◌, ℕ, ◌+◌, ◌≤◌, Bool, true, false, ◌||◌, cond, eqb, List, [], ◌∷◌, ◌++◌, length, Option, Some, None, Result, Ok, Err, refl, ap, sym, ◌∙◌, arith}
-use Rattle.std.specs.Prelude.{IfOk}
+use Rattle.std.proofs.Common.{◌≡◌, ℕ, ◌+◌, ◌≤◌, Bool, true, false, ◌||◌, inl, inr, cond, eqb, List, [], ◌∷◌, ◌++◌, length, Option, Some, None, Result, Ok, Err, refl, ap, sym, ◌∙◌, arith}
+use Rattle.std.specs.Prelude.{IfOk, is_some, codes, nat_lt}
 use Rattle.std.specs.List.{list_all, slice_split}
-use Rattle.std.proofs.lemmas.Bool.{ne_eqb}
+use Rattle.std.proofs.lemmas.Bool.{ne_eqb, cases_Bool}
+use Rattle.std.specs.Option.{option_or}
+use Rattle.std.specs.Str.{bytes_eq}
 use Rattle.script_text.specs.Lines.{has_bytes, field, fields_of, is_blank}
-use Rattle.script_text.specs.Words.{arguments, word_of}
+use Rattle.script_text.specs.Words.{arguments, block_word, word_of, is_name}
 use Rattle.script_text.specs.Filled.{filled}
-use Rattle.script_text.specs.Names.{is_among, different, number_of_name, number_on, name_by, name_on}
+use Rattle.script_text.specs.Names.{is_among, different, number_of_name, number_on, takes_name, name_by, name_on}
 use Rattle.script_text.specs.Reading.{said, said_with, said_by, said_on, is_skipped}
 use Rattle.script_text.specs.declared.faults.Cause.{Cause}
 use Rattle.script_text.specs.declared.commands.Line.{Line}
 use Rattle.script_text.specs.declared.words.Word.{Word}
 use Rattle.script_text.specs.declared.words.Word.TheVariants as words
 use Rattle.script_text.proofs.FieldLemmas.{all_have_bytes}
-use Rattle.script_text.proofs.NameLemmas.{before_known, bytes_same}
+use Rattle.script_text.proofs.NameLemmas.{before_known, bytes_same, same_bytes}
 
 few : (w : Word) → arguments w ≤ 3
 few words.Round = omega arith
@@ -53,6 +55,74 @@ said_same name ((x ∷ xs) ∷ (y ∷ ys) ∷ (z ∷ zs) ∷ (u ∷ us) ∷ []) 
 said_same name ((x ∷ xs) ∷ (y ∷ ys) ∷ (z ∷ zs) ∷ (u ∷ us) ∷ [] ∷ fs) h = absurd (let z : ⊥ = cc in z)
 said_same name ((x ∷ xs) ∷ (y ∷ ys) ∷ (z ∷ zs) ∷ (u ∷ us) ∷ (v ∷ vs) ∷ fs) h =
     ap (λ r. cond (is_skipped (x ∷ xs)) (Ok None) r) (too_many (word_of (x ∷ xs)) name (length ((x ∷ xs) ∷ (y ∷ ys) ∷ (z ∷ zs) ∷ (u ∷ us) ∷ (v ∷ vs) ∷ fs)) (y ∷ ys) (z ∷ zs) (u ∷ us) (omega arith))
+
+---- Words before a name
+
+one_block : (b : Bool) (w : Word) (o : Option Word) → nat_lt 0 (arguments w) ≡ true → takes_name o ≡ is_some o → takes_name (cond b (Some w) o) ≡ is_some (cond b (Some w) o)
+one_block true w o h k = h
+one_block false w o h k = k
+
+block_takes : (cs : List ℕ) → takes_name (block_word cs) ≡ is_some (block_word cs)
+block_takes cs =
+    let put : Option Word = cond (bytes_eq cs (codes "put")) (Some words.Put) None in
+    let get : Option Word = cond (bytes_eq cs (codes "get")) (Some words.Get) put in
+    let size : Option Word = cond (bytes_eq cs (codes "size")) (Some words.Size) get in
+    let free : Option Word = cond (bytes_eq cs (codes "free")) (Some words.Free) size in
+    let inplace : Option Word = cond (bytes_eq cs (codes "inplace")) (Some words.Inplace) free in
+    let realloc : Option Word = cond (bytes_eq cs (codes "realloc")) (Some words.Realloc) inplace in
+    let zalloc : Option Word = cond (bytes_eq cs (codes "zalloc")) (Some words.Zalloc) realloc in
+    let alloc : Option Word = cond (bytes_eq cs (codes "alloc")) (Some words.Alloc) zalloc in
+    one_block (bytes_eq cs (codes "alloc")) words.Alloc zalloc refl
+    (one_block (bytes_eq cs (codes "zalloc")) words.Zalloc realloc refl
+    (one_block (bytes_eq cs (codes "realloc")) words.Realloc inplace refl
+    (one_block (bytes_eq cs (codes "inplace")) words.Inplace free refl
+    (one_block (bytes_eq cs (codes "free")) words.Free size refl
+    (one_block (bytes_eq cs (codes "size")) words.Size get refl
+    (one_block (bytes_eq cs (codes "get")) words.Get put refl
+    (one_block (bytes_eq cs (codes "put")) words.Put None refl
+    (refl))))))))
+
+one_bare : (cs word : List ℕ) (w : Word) (o : Option Word) → block_word word ≡ None → nat_lt 0 (arguments w) ≡ false →
+    takes_name (option_or o (block_word cs)) ≡ is_some (block_word cs) → takes_name (option_or (cond (bytes_eq cs word) (Some w) o) (block_word cs)) ≡ is_some (block_word cs)
+one_bare cs word w o none zero k = elim (cases_Bool (bytes_eq cs word)) [
+  | inl h ↦
+      let e = ap block_word (same_bytes cs word h) ∙ none in
+      rw (h, e) zero
+  | inr h ↦ rw h k
+]
+
+-- a word has a name or an address behind it exactly where it is one of the second kind
+pub takes_block : (cs : List ℕ) → takes_name (word_of cs) ≡ is_some (block_word cs)
+takes_block cs =
+    let compact : Option Word = cond (bytes_eq cs (codes "compact")) (Some words.Compact) None in
+    let walk : Option Word = cond (bytes_eq cs (codes "walk")) (Some words.Walk) compact in
+    let unlock : Option Word = cond (bytes_eq cs (codes "unlock")) (Some words.Unlock) walk in
+    let lock : Option Word = cond (bytes_eq cs (codes "lock")) (Some words.Lock) unlock in
+    let thread : Option Word = cond (bytes_eq cs (codes "thread")) (Some words.Thread) lock in
+    let round : Option Word = cond (bytes_eq cs (codes "round")) (Some words.Round) thread in
+    one_bare cs (codes "round") words.Round thread refl refl
+    (one_bare cs (codes "thread") words.Thread lock refl refl
+    (one_bare cs (codes "lock") words.Lock unlock refl refl
+    (one_bare cs (codes "unlock") words.Unlock walk refl refl
+    (one_bare cs (codes "walk") words.Walk compact refl refl
+    (one_bare cs (codes "compact") words.Compact None refl refl
+    (block_takes cs))))))
+
+pub name_there : (o : Option Word) (w f : List ℕ) → o ≡ word_of w → takes_name o ≡ true → is_name f ≡ true → name_by w f ≡ f ∷ []
+name_there o w f e t n =
+    let s : is_some (block_word w) ≡ true = sym (takes_block w) ∙ ap takes_name (sym e) ∙ t in
+    rw (s, n) refl
+
+pub other_word : (o : Option Word) (w f : List ℕ) → o ≡ word_of w → takes_name o ≡ false → name_by w f ≡ []
+other_word o w f e t =
+    let s : is_some (block_word w) ≡ false = sym (takes_block w) ∙ ap takes_name (sym e) ∙ t in
+    rw s refl
+
+pub no_name : (w f : List ℕ) → is_name f ≡ false → name_by w f ≡ []
+no_name w f n = elim (cases_Bool (is_some (block_word w))) [
+  | inl h ↦ rw (h, n) refl
+  | inr h ↦ rw h refl
+]
 
 among_here : (names : List (List ℕ)) (x : List ℕ) → is_among (names ++ x ∷ []) x ≡ true
 among_here [] x = rw (bytes_same x) refl

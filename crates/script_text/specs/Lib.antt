@@ -3,6 +3,7 @@ pub mod Lines
 pub mod Words
 pub mod Digits
 pub mod Filled
+pub mod Keys
 pub mod Names
 pub mod Pieces
 pub mod Order

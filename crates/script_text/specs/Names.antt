@@ -1,13 +1,12 @@
 -- The names of a text, and their numbers.
-use Rattle.std.specs.Prelude.{◌≡◌, ℕ, ◌+◌, Bool, ◌&&◌, List, [], ◌∷◌, ◌++◌, is_some, Some, None, if◌then◌else◌}
+use Rattle.std.specs.Prelude.{◌≡◌, ℕ, ◌+◌, Bool, true, ◌&&◌, false, nat_lt, List, [], ◌∷◌, ◌++◌, is_some, Option, Some, None, if◌then◌else◌}
 use Rattle.std.specs.List.{list_any}
 use Rattle.std.specs.Str.{bytes_eq}
-use Rattle.std.specs.Ordering.{nat_cmp}
-use Rattle.std.specs.Cmp.Lexicographic.{slice_cmp}
-use Rattle.std.specs.BTreeMap.{BTreeMap, get_by, btree_map_len}
-use Rattle.std.specs.Borrow.{Bor}
+use Rattle.std.specs.BTreeMap.{BTreeMap, get, btree_map_len}
 use Rattle.script_text.specs.Lines.{field, fields_of}
-use Rattle.script_text.specs.Words.{block_word, is_name}
+use Rattle.script_text.specs.Words.{arguments, block_word, is_name}
+use Rattle.script_text.specs.declared.words.Word.{Word}
+use Rattle.script_text.specs.Keys.{key_of, key_cmp}
 
 abbrev pub is_among : List (List ℕ) → List ℕ → Bool
 is_among names x = list_any (bytes_eq x) names
@@ -25,6 +24,11 @@ before_name x (y ∷ ys) = if bytes_eq x y then [] else y ∷ before_name x ys
 -- the number of a name: how many different names stand before its first place
 abbrev pub number_of_name : List (List ℕ) → List ℕ → ℕ
 number_of_name names x = different (before_name x names)
+
+-- whether a block stands behind a word
+abbrev pub takes_name : Option Word → Bool
+takes_name None = false
+takes_name (Some word) = nat_lt 0 (arguments word)
 
 -- the name on a line: its first field behind a word that takes one, if that is a name
 abbrev pub name_by : (word first : List ℕ) → List (List ℕ)
@@ -44,6 +48,6 @@ number_on names [] = 0
 number_on names (x ∷ xs) = number_of_name names x
 
 -- a map gives the names their numbers
-pub record AreNumbered (numbers : BTreeMap (Bor (List ℕ)) ℕ) (names : List (List ℕ)) : Type 0 where
-  pub found : (x : List ℕ) → get_by (λ k. slice_cmp nat_cmp x k.now) numbers ≡ (if is_among names x then Some (number_of_name names x) else None)
+pub record AreNumbered (numbers : BTreeMap (ℕ × ℕ) ℕ) (names : List (List ℕ)) : Type 0 where
+  pub found : (x : List ℕ) → is_name x ≡ true → get key_cmp numbers (key_of x) ≡ (if is_among names x then Some (number_of_name names x) else None)
   pub count : btree_map_len numbers ≡ different names

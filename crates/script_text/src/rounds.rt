@@ -70,7 +70,8 @@ fn threads_in(alloc: Global, lines: &[NumberedLine]) -> Result<Vec<Thread>, Allo
     ensures threads { IfOk result (λ threads. threads.items ≡ map thread_of (cut_before is_thread lines.now)) }
     ensures few { IfOk result (λ threads. length threads.items ≤ 1048576) }
 {
-    let mut threads = Vec::new(alloc);
+    // Most rounds have one thread.
+    let mut threads = Vec::with_capacity(alloc, lines.len().min(1))?;
     let mut rest = lines;
     while !rest.is_empty() {
         let (piece, others) = cut_thread(rest);
@@ -100,7 +101,7 @@ fn number_of_first(lines: &[NumberedLine]) -> u32
 fn commands_in(alloc: Global, lines: &[NumberedLine]) -> Result<Vec<CommandLine>, AllocError>
     ensures { IfOk result (λ commands. commands.items ≡ filter_map command_line lines.now) }
 {
-    let mut commands = Vec::new(alloc);
+    let mut commands = Vec::with_capacity(alloc, lines.len())?;
     for line in lines {
         if let Some(command) = command_on(line) {
             commands.push(command)?;

@@ -1,8 +1,9 @@
 // What a line says.
-ghost use Rattle.std.specs.Prelude.{◌≡◌, ℕ, ◌+◌, ◌^◌, ◌<◌, ◌≤◌, List, [], ◌∷◌, ◌++◌, Ok, Err, IfOk, IfErr, MatchOption};
+ghost use Rattle.std.specs.Prelude.{◌≡◌, ℕ, ◌+◌, ◌^◌, ◌<◌, ◌≤◌, true, List, [], ◌∷◌, ◌++◌, Ok, Err, IfOk, IfErr, IfSome, MatchOption};
 ghost use Rattle.std.specs.BTreeMap.{btree_map_len};
 ghost use Rattle.script_text.specs.Lines.{fields_of};
-ghost use Rattle.script_text.specs.Names.{AreNumbered, name_on, name_by, number_on};
+ghost use Rattle.script_text.specs.Words.{word_of, is_name};
+ghost use Rattle.script_text.specs.Names.{AreNumbered, name_on, name_by, number_on, takes_name};
 ghost use Rattle.script_text.specs.Filled.{filled};
 ghost use Rattle.script_text.specs.Reading.{said_with, said_on, is_skipped, IsUnsaid};
 
@@ -14,7 +15,7 @@ use crate::words::{Word, line, named};
 use std::alloc::AllocError;
 
 /// What a line says, and None where it is skipped. Its name is numbered.
-pub fn say<'a>(names: &mut Names<'a>, number: u32, text: &'a [u8]) -> Result<Option<Line>, ScriptNo>
+pub fn say(names: &mut Names, number: u32, text: &[u8]) -> Result<Option<Line>, ScriptNo>
     requires { btree_map_len names.old.numbers < 2 ^ 32 }
     ensures said { IfOk result (λ line. (before behind : List (List ℕ)) → AreNumbered names.old.numbers before →
         said_on (before ++ name_on (fields_of text.now) ++ behind) text.now ≡ Ok line) }
@@ -25,8 +26,9 @@ pub fn say<'a>(names: &mut Names<'a>, number: u32, text: &'a [u8]) -> Result<Opt
     ensures count { btree_map_len names.new.numbers ≤ btree_map_len names.old.numbers + 1 }
 {
     let fields = Fields::of(text);
-    let number_of_name = number_in(names, &fields)?;
-    match said(number_of_name, &fields) {
+    let word = Word::read(fields.word);
+    let number_of_name = number_in(names, word, &fields)?;
+    match said(number_of_name, word, &fields) {
         Ok(line) => Ok(line),
         Err(cause) => Err(ScriptNo::Fault(ScriptFault {
             line: number,
@@ -35,30 +37,43 @@ pub fn say<'a>(names: &mut Names<'a>, number: u32, text: &'a [u8]) -> Result<Opt
     }
 }
 
-/// The number of the name among fields, and 0 where there is none.
-fn number_in<'a>(names: &mut Names<'a>, fields: &Fields<'a>) -> Result<u32, AllocError>
-    requires { btree_map_len names.old.numbers < 2 ^ 32 }
+/// The number of the name among fields that begin with this word, and 0 where there is none.
+fn number_in(names: &mut Names, word: Option<Word>, fields: &Fields) -> Result<u32, AllocError>
+    requires word { word ≡ word_of fields.now.word.now }
+    requires few { btree_map_len names.old.numbers < 2 ^ 32 }
     ensures number { IfOk result (λ n. (before behind : List (List ℕ)) → AreNumbered names.old.numbers before →
         let name = name_by fields.now.word.now fields.now.first.now in n ≡ number_on (before ++ name ++ behind) name) }
     ensures numbered { IfOk result (λ _. (before : List (List ℕ)) → AreNumbered names.old.numbers before →
         AreNumbered names.new.numbers (before ++ name_by fields.now.word.now fields.now.first.now)) }
     ensures count { btree_map_len names.new.numbers ≤ btree_map_len names.old.numbers + 1 }
 {
-    match name_of(fields) {
+    match name_of(word, fields) {
         Some(name) => names.number(name),
         None => Ok(0),
     }
 }
 
 /// The name among fields.
-fn name_of<'a>(fields: &Fields<'a>) -> Option<&'a [u8]>
-    ensures { MatchOption result (name_by fields.now.word.now fields.now.first.now ≡ [])
+fn name_of<'a>(word: Option<Word>, fields: &Fields<'a>) -> Option<&'a [u8]>
+    requires { word ≡ word_of fields.now.word.now }
+    ensures name { MatchOption result (name_by fields.now.word.now fields.now.first.now ≡ [])
         (λ name. name_by fields.now.word.now fields.now.first.now ≡ name.now ∷ []) }
+    ensures valid { IfSome result (λ name. is_name name.now ≡ true) }
 {
-    if Word::of_block(fields.word).is_some() && named(fields.first) {
+    if takes_name(word) && named(fields.first) {
         Some(fields.first)
     } else {
         None
+    }
+}
+
+/// Whether a block stands behind a word, by its name or its address.
+fn takes_name(word: Option<Word>) -> bool
+    ensures { result ≡ takes_name word }
+{
+    match word {
+        Some(word) => word.arguments() > 0,
+        None => false,
     }
 }
 
@@ -71,7 +86,8 @@ fn skipped(word: &[u8]) -> bool
     }
 }
 
-fn said(number_of_name: u32, fields: &Fields) -> Result<Option<Line>, Cause>
+fn said(number_of_name: u32, word: Option<Word>, fields: &Fields) -> Result<Option<Line>, Cause>
+    requires { word ≡ word_of fields.now.word.now }
     ensures { let f = fields.now in result ≡ said_with number_of_name
         (filled f.word.now f.first.now f.second.now f.third.now f.fourth.now)
         f.word.now f.first.now f.second.now f.third.now }
@@ -79,7 +95,7 @@ fn said(number_of_name: u32, fields: &Fields) -> Result<Option<Line>, Cause>
     if skipped(fields.word) {
         return Ok(None);
     }
-    let Some(word) = Word::read(fields.word) else {
+    let Some(word) = word else {
         return Err(Cause::BadLine);
     };
     if fields.count() != word.arguments() + 1 {

@@ -170,6 +170,43 @@ fn rounds_and_threads(rt: HostRuntime) -> Result<(), Fail> {
     Ok(())
 }
 
+/// The number of the name of command k in the first thread, and 99 where there is none.
+fn number_of(script: &Script, k: u32) -> u32 {
+    if script.rounds() == 0 || script.threads(0) == 0 {
+        return 99;
+    }
+    match script.command(0, 0, k) {
+        Some(Command::Size {
+            target: Target::Name(number),
+        }) => number,
+        _ => 99,
+    }
+}
+
+#[test]
+fn names_of_all_lengths(rt: HostRuntime) -> Result<(), Fail> {
+    let alloc = rt.alloc();
+    let script = read_script(
+        alloc,
+        b"size a\nsize aa\nsize b\nsize aaaaaaaaaaaaaaaa\nsize aaaaaaaaaaaaaaaab\n\
+size aaaaaaaaaaaaaaaac\nsize baaaaaaaaaaaaaaac\nsize a1234567890123456789012345678901\n\
+size a1234567890123456789012345678902\nsize A\n",
+    )?;
+    assert_eq!(rt; script.names(), 10);
+    for k in 0u32..10 {
+        assert_eq!(rt; number_of(&script, k), k);
+    }
+    let script = read_script(
+        alloc,
+        b"size b\nsize aaaaaaaaaaaaaaaab\nsize b\nsize aaaaaaaaaaaaaaaab\nsize aaaaaaaaaaaaaaaa\n",
+    )?;
+    assert_eq!(rt; script.names(), 3);
+    assert_eq!(rt; number_of(&script, 2), 0);
+    assert_eq!(rt; number_of(&script, 3), 1);
+    assert_eq!(rt; number_of(&script, 4), 2);
+    Ok(())
+}
+
 /// The line of the first command that is not built at a level, and 0 where there is none.
 fn unbuilt(script: &Script, level: u8) -> u32 {
     if 2 <= level && level <= 6 {

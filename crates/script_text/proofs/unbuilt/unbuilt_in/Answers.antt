@@ -1,4 +1,4 @@
-use Rattle.std.proofs.Common.{◌∙◌, sym, refl, [], Some, None}
+use Rattle.std.proofs.Common.{◌∙◌, sym, refl, []}
 use Rattle.std.proofs.lemmas.List.{at_drop_all}
 use Rattle.script_text.specs.Seen.{unbuilt_from}
 use Rattle.script_text.specs.Unbuilt.{of_threads, of_rounds}
