@@ -26,20 +26,20 @@ pub bytes_same : (xs : List ℕ) → bytes_eq xs xs ≡ true
 bytes_same [] = refl
 bytes_same (x ∷ xs) = rw (eq-eqb x x refl) (bytes_same xs)
 
-bytes_back : (xs ys : List ℕ) → bytes_eq xs ys ≡ false → bytes_eq ys xs ≡ false
+pub bytes_back : (xs ys : List ℕ) → bytes_eq xs ys ≡ false → bytes_eq ys xs ≡ false
 bytes_back xs ys h = false_from_ne_true (bytes_eq ys xs) (λ k.
     let e = same_bytes ys xs k in
     let f = rw (e, bytes_same xs) at h in absurd (let z : ⊥ = cc in z))
 
-or_false : (b : Bool) → (b || false) ≡ b
+pub or_false : (b : Bool) → (b || false) ≡ b
 or_false true = refl
 or_false false = refl
 
-or_true : (b : Bool) → (b || true) ≡ true
+pub or_true : (b : Bool) → (b || true) ≡ true
 or_true true = refl
 or_true false = refl
 
-among_push : (names : List (List ℕ)) (x q : List ℕ) → is_among (names ++ x ∷ []) q ≡ (is_among names q || bytes_eq q x)
+pub among_push : (names : List (List ℕ)) (x q : List ℕ) → is_among (names ++ x ∷ []) q ≡ (is_among names q || bytes_eq q x)
 among_push names x q = list_any-append (bytes_eq q) names (x ∷ []) ∙ ap (λ b. is_among names q || b) (or_false (bytes_eq q x))
 
 pub before_known : (q : List ℕ) (names more : List (List ℕ)) → is_among names q ≡ true → before_name q (names ++ more) ≡ before_name q names
