@@ -8,3 +8,4 @@ pub mod OrderLemmas
 pub mod SaidLemmas
 pub mod ReadingLemmas
 pub mod UnbuiltLemmas
+pub mod GeneratorLemmas

@@ -15,3 +15,5 @@ pub mod Scripts
 pub mod Unbuilt
 pub mod Values
 pub mod Seen
+pub mod Generator
+pub mod Drawing

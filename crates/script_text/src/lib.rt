@@ -4,6 +4,7 @@
 mod commands;
 mod counts;
 mod faults;
+mod generating;
 mod lines;
 mod numbering;
 mod reading;
@@ -17,5 +18,6 @@ mod words;
 
 pub use commands::{Command, CommandLine, Line, NumberedLine, Target};
 pub use faults::{Cause, ScriptFault, ScriptNo};
+pub use generating::generate;
 pub use scripts::{Script, read_script};
 pub use words::number;

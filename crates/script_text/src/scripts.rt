@@ -1,5 +1,6 @@
 // A script.
 ghost use Rattle.std.specs.Prelude.{◌≡◌, ◌<◌, ◌≤◌, length, Ok, Err, Some, None, IfOk, IfErr};
+ghost use Rattle.script_text.specs.Generator.{one_thread};
 ghost use Rattle.script_text.specs.Reading.{reading_of, IsRefusedAs};
 ghost use Rattle.script_text.specs.Scripts.{round_at, thread_at, command_at, second_thread, first_second, most_threads};
 ghost use Rattle.script_text.specs.Unbuilt.{first_unbuilt};
@@ -7,9 +8,9 @@ ghost use Rattle.script_text.specs.Unbuilt.{first_unbuilt};
 use crate::commands::{Command, CommandLine};
 use crate::faults::{Cause, ScriptFault, ScriptNo};
 use crate::reading::read_lines;
-use crate::rounds::{Round, rounds_in};
+use crate::rounds::{Round, Thread, rounds_in};
 use crate::unbuilt::unbuilt_in;
-use std::alloc::Global;
+use std::alloc::{AllocError, Global};
 use std::marker::Model;
 
 /// A text that was read: its rounds, each with its threads, each with its commands.
@@ -52,6 +53,21 @@ pub fn read_script(alloc: Global, text: &[u8]) -> Result<Script, ScriptNo>
 }
 
 impl Script {
+    /// A script of one round of one thread, with no text.
+    pub(crate) fn of_commands(
+        alloc: Global,
+        names: u32,
+        commands: Vec<CommandLine>,
+    ) -> Result<Script, AllocError>
+        ensures { IfOk result (λ script. script ≡ one_thread names commands.items) }
+    {
+        let mut threads = Vec::new(alloc);
+        threads.push(Thread { line: 0, commands })?;
+        let mut rounds = Vec::new(alloc);
+        rounds.push(Round { threads })?;
+        Ok(Script { rounds, names })
+    }
+
     /// Whether no round has a second thread; otherwise the first line that begins one.
     pub fn single(&self) -> Result<(), ScriptFault>
         ensures single { IfOk result (λ _. first_second self.now.rounds ≡ None) }

@@ -1,4 +1,6 @@
 // Texts and what is read of them.
+mod generated;
+
 use crate::{Cause, Command, Script, ScriptFault, ScriptNo, Target, read_script};
 use std::alloc::{AllocError, Global};
 use std::process::Abort;
