@@ -1,0 +1,9 @@
+pub mod Gate
+pub mod Core
+pub mod Whole
+pub mod InCall
+pub mod Reach
+pub mod Pair
+pub mod Duo
+pub mod Asks
+pub mod Words

@@ -4,6 +4,7 @@ use Rattle.heap_model.specs.declared.Call.{Call}
 use Rattle.heap_model.specs.declared.Act.{Act}
 use Rattle.heap_model.specs.declared.Act.TheVariants as acts
 use Rattle.heap_model.specs.declared.Reply.{Reply}
+use Rattle.heap_model.specs.declared.Reply.TheVariants as replies
 use Rattle.heap_model.specs.State.{Setting, IsValidSetting}
 use Rattle.heap_model.specs.CallState.{Configuration}
 use Rattle.heap_model.specs.Search.{hint}
@@ -35,8 +36,13 @@ pub record Answers (s : Setting) (m : Configuration) (call : Call) (reply : Repl
   pub gets : GetsReply s 0 call reply (moments_by s m (acts.Begin call ∷ rest))
   pub idle : IsIdle (configuration_by s m (acts.Begin call ∷ rest))
 
+-- One reply. The number that ends a walk counts the calls before, so one call alone does not tell it.
+abbrev pub IsSameReply : Reply → Reply → Type 0
+IsSameReply (replies.Walked n) (replies.Walked count) = Unit {0}
+IsSameReply reply other = reply ≡ other
+
 -- However a call comes about, from configurations that are alike, its reply is the same, and it leaves them alike.
 abbrev pub IsDetermined : Call → Type 0
 IsDetermined call = (s : Setting) (m n : Configuration) (reply other : Reply) (rest others : List Act) →
     IsValidSetting s → IsBetween s m → IsBetween s n → AreAlike m n → Answers s m call reply rest → Answers s n call other others →
-    (reply ≡ other) × AreAlike (configuration_by s m (acts.Begin call ∷ rest)) (configuration_by s n (acts.Begin call ∷ others))
+    IsSameReply reply other × AreAlike (configuration_by s m (acts.Begin call ∷ rest)) (configuration_by s n (acts.Begin call ∷ others))
