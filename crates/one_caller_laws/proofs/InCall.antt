@@ -65,14 +65,14 @@ is_quiet (acts.TakeLock what) = true
 is_quiet (acts.GiveLock what) = true
 is_quiet _ = false
 
-quiet_core : (s : Setting) (m : Configuration) (act : Act) → is_quiet act ≡ true → core_of (after s m (by_zero act)) ≡ core_of m
+pub quiet_core : (s : Setting) (m : Configuration) (act : Act) → is_quiet act ≡ true → core_of (after s m (by_zero act)) ≡ core_of m
 quiet_core s m acts.Enter h = refl
 quiet_core s m acts.Leave h = refl
 quiet_core s m (acts.TakeLock what) h = refl
 quiet_core s m (acts.GiveLock what) h = refl
 quiet_core s m _ h = absurd (false≢true h)
 
-quiet_hints : (s : Setting) (m : Configuration) (act : Act) → is_quiet act ≡ true → hints_of (after s m (by_zero act)) ≡ hints_of m
+pub quiet_hints : (s : Setting) (m : Configuration) (act : Act) → is_quiet act ≡ true → hints_of (after s m (by_zero act)) ≡ hints_of m
 quiet_hints s m acts.Enter h = refl
 quiet_hints s m acts.Leave h = refl
 quiet_hints s m (acts.TakeLock what) h = refl
@@ -83,14 +83,14 @@ quiet_hints s m (acts.GiveLock whats.Back) h = refl
 quiet_hints s m (acts.GiveLock whats.Large) h = refl
 quiet_hints s m _ h = absurd (false≢true h)
 
-quiet_demand : (s : Setting) (m : Configuration) (act : Act) → is_quiet act ≡ true → (after s m (by_zero act)).now.demand ≡ Nothing
+pub quiet_demand : (s : Setting) (m : Configuration) (act : Act) → is_quiet act ≡ true → (after s m (by_zero act)).now.demand ≡ Nothing
 quiet_demand s m acts.Enter h = refl
 quiet_demand s m acts.Leave h = refl
 quiet_demand s m (acts.TakeLock what) h = refl
 quiet_demand s m (acts.GiveLock what) h = refl
 quiet_demand s m _ h = absurd (false≢true h)
 
-quiet_left_out : (act : Act) → is_quiet act ≡ true → is_left_out act ≡ true
+pub quiet_left_out : (act : Act) → is_quiet act ≡ true → is_left_out act ≡ true
 quiet_left_out acts.Enter h = refl
 quiet_left_out acts.Leave h = refl
 quiet_left_out (acts.TakeLock what) h = refl
@@ -224,22 +224,22 @@ is_shown (acts.Reserve segment) = true
 is_shown (acts.Span first pages kind bucket slot) = true
 is_shown act = not (is_left_out act)
 
--- .. are all that can come, but for quiet ones, where nothing is searched and all spans have places
-pub shows : (s : Setting) (call : Call) (m : Configuration) (act : Act) → InCall s call m → IsWhole (core_of m) → SearchesNone s m → is_compact call ≡ false → is_quiet act ≡ false → is_begin act ≡ false →
-    may_follow s m (by_zero act) ≡ true → is_shown act ≡ true
-shows s call m act w whole none plain loud b h = by_act act loud b h (row_of s m (by_zero act) h)
+-- .. are all that can come where nothing is searched, but for quiet ones and the end of a span
+pub shows_or_ends : (s : Setting) (m : Configuration) (act : Act) → SearchesNone s m → is_quiet act ≡ false → is_begin act ≡ false → may_follow s m (by_zero act) ≡ true →
+    (is_shown act ≡ true) ⊎ ((first : ℕ) × (act ≡ acts.Unspan first))
+shows_or_ends s m act none loud b h = by_act act loud b (row_of s m (by_zero act) h)
   where
     e : (request_of s m 0).search ≡ None
     e = none_searched m.state.vs (request_of s m 0).bucket none
 
-    by_act : (act : Act) → is_quiet act ≡ false → is_begin act ≡ false → may_follow s m (by_zero act) ≡ true → may s m 0 act ≡ true → is_shown act ≡ true
-    by_act (acts.Begin call) l b h r = absurd (true≢false b)
-    by_act acts.Enter l b h r = absurd (true≢false l)
-    by_act acts.Leave l b h r = absurd (true≢false l)
-    by_act (acts.TakeLock what) l b h r = absurd (true≢false l)
-    by_act (acts.GiveLock what) l b h r = absurd (true≢false l)
-    by_act (acts.Unspan first) l b h r = absurd (never_unspanned s call m first w whole plain h)
-    by_act (acts.Active bucket) l b h r =
+    by_act : (act : Act) → is_quiet act ≡ false → is_begin act ≡ false → may s m 0 act ≡ true → (is_shown act ≡ true) ⊎ ((first : ℕ) × (act ≡ acts.Unspan first))
+    by_act (acts.Begin call) l b r = absurd (true≢false b)
+    by_act acts.Enter l b r = absurd (true≢false l)
+    by_act acts.Leave l b r = absurd (true≢false l)
+    by_act (acts.TakeLock what) l b r = absurd (true≢false l)
+    by_act (acts.GiveLock what) l b r = absurd (true≢false l)
+    by_act (acts.Unspan first) l b r = inr (first, refl)
+    by_act (acts.Active bucket) l b r =
         let k = caller_view m 0 in
         let v = m.state.vs in
         let q = request_of s m 0 in
@@ -248,11 +248,19 @@ shows s call m act w whole none plain loud b h = by_act act loud b h (row_of s m
         let r3 = and_parts (k.entered && k.vs) _ r2.0 in
         let o = is_some_of_parts q.bucket bucket r3.1 in
         absurd (both_ways (is_due v bucket) (or_parts (v.active bucket) (is_due v bucket) (ap (λ (o : Option ℕ). for_some o (goes_to_lfh v)) (sym o) ∙ none)).1 r1.1)
-    by_act (acts.Saw head word bits) l b h r = absurd (not_searching (caller_view m 0) (request_of s m 0) _ e r)
-    by_act (acts.Lost head index) l b h r = absurd (not_searching (caller_view m 0) (request_of s m 0) _ e r)
-    by_act (acts.NoHint bucket slot) l b h r = absurd (not_searching (caller_view m 0) (request_of s m 0) _ e r)
-    by_act (acts.NoSpan bucket) l b h r = absurd (not_searching (caller_view m 0) (request_of s m 0) _ e r)
-    by_act _ l b h r = refl
+    by_act (acts.Saw head word bits) l b r = absurd (not_searching (caller_view m 0) (request_of s m 0) _ e r)
+    by_act (acts.Lost head index) l b r = absurd (not_searching (caller_view m 0) (request_of s m 0) _ e r)
+    by_act (acts.NoHint bucket slot) l b r = absurd (not_searching (caller_view m 0) (request_of s m 0) _ e r)
+    by_act (acts.NoSpan bucket) l b r = absurd (not_searching (caller_view m 0) (request_of s m 0) _ e r)
+    by_act _ l b r = inl refl
+
+-- .. and while all spans have places, no span ends
+pub shows : (s : Setting) (call : Call) (m : Configuration) (act : Act) → InCall s call m → IsWhole (core_of m) → SearchesNone s m → is_compact call ≡ false → is_quiet act ≡ false → is_begin act ≡ false →
+    may_follow s m (by_zero act) ≡ true → is_shown act ≡ true
+shows s call m act w whole none plain loud b h = elim (shows_or_ends s m act none loud b h) [
+  | inl e ↦ e
+  | inr u ↦ absurd (never_unspanned s call m u.0 w whole plain (subst (λ (x : Act). may_follow s m (by_zero x) ≡ true) u.1 h))
+]
 
 pub still_none : (s : Setting) (call : Call) (m n : Configuration) → InCall s call m → InCall s call n → core_of n ≡ core_of m → SearchesNone s m → SearchesNone s n
 still_none s call m n w v e h =

@@ -7,3 +7,6 @@ pub mod Pair
 pub mod Duo
 pub mod Asks
 pub mod Words
+pub mod Closing
+pub mod Freeing
+pub mod Ways

@@ -92,7 +92,7 @@ is_maker (acts.Span first pages kind bucket slot) = true
 is_maker _ = false
 
 -- a span that is made is followed by a place, which the call shows
-shown_place : (s : Setting) (m : Configuration) (act : Act) (rest : List Act) → Goes s m (act ∷ rest) → is_maker act ≡ true → (start granules : ℕ) × (layer : Layer) × (t : List Act) × (shape_of (act ∷ rest) ≡ acts.Place start granules layer ∷ t)
+pub shown_place : (s : Setting) (m : Configuration) (act : Act) (rest : List Act) → Goes s m (act ∷ rest) → is_maker act ≡ true → (start granules : ℕ) × (layer : Layer) × (t : List Act) × (shape_of (act ∷ rest) ≡ acts.Place start granules layer ∷ t)
 shown_place s m (acts.Reserve segment) rest g h =
     let n = after s m (by_zero (acts.Reserve segment)) in
     let f = span_follows s n rest segment (goes_after s m (acts.Reserve segment) rest g) refl in
@@ -108,7 +108,7 @@ shown_place s m (acts.Span first pages kind bucket slot) rest g h =
     (p.start, p.granules, p.layer, shape_of p.later, ap shape_of p.is)
 shown_place s m _ rest g h = absurd (false≢true h)
 
-shown_cases : (act : Act) → is_shown act ≡ true → (is_maker act ≡ true) ⊎ (is_left_out act ≡ false)
+pub shown_cases : (act : Act) → is_shown act ≡ true → (is_maker act ≡ true) ⊎ (is_left_out act ≡ false)
 shown_cases (acts.Reserve segment) h = inl refl
 shown_cases (acts.Span first pages kind bucket slot) h = inl refl
 shown_cases act h = inr (not-true _ h)

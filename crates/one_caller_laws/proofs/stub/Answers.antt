@@ -1,7 +1,7 @@
 use Rattle.std.proofs.Common.{refl}
-use Rattle.one_caller_laws.proofs.Gate.{zero_from_first}
-use Rattle.one_caller_laws.proofs.Core.{same_request}
 use Rattle.one_caller_laws.proofs.Words.{walk_determined}
+use Rattle.one_caller_laws.proofs.Freeing.{free_determined}
+use Rattle.one_caller_laws.proofs.Ways.{one_way}
 use Rattle.one_caller_laws.proofs.stub.Goals as goal
 
 pub returns : goal.returns
