@@ -10,3 +10,5 @@ pub mod Words
 pub mod Closing
 pub mod Freeing
 pub mod Ways
+pub mod Sites
+pub mod Makes
