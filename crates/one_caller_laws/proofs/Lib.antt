@@ -12,3 +12,4 @@ pub mod Freeing
 pub mod Ways
 pub mod Sites
 pub mod Makes
+pub mod Spans

@@ -117,14 +117,14 @@ vs_place_parts spaces n start granules h =
     (p.0, p.1, eqb-true start (16 * p.0.first) q.0, eqb-true granules p.0.count q.1)
 
 -- what a place of the variable-size layer says
-record VsRow (s : Setting) (m : Configuration) (n start granules : ℕ) : Type 0 where
+pub record VsRow (s : Setting) (m : Configuration) (n start granules : ℕ) : Type 0 where
   pub size : is_for_vs n ≡ true
   pub run : Run
   pub fits : vs_place (gaps m.state) (units_of n) ≡ Some run
   pub starts : start ≡ 16 * run.first
   pub long : granules ≡ run.count
 
-vs_row : (s : Setting) (call : Call) (m : Configuration) (n start granules : ℕ) → InCall s call m → asked_by call ≡ Some n → may_follow s m (by_zero (acts.Place start granules layers.Vs)) ≡ true → VsRow s m n start granules
+pub vs_row : (s : Setting) (call : Call) (m : Configuration) (n start granules : ℕ) → InCall s call m → asked_by call ≡ Some n → may_follow s m (by_zero (acts.Place start granules layers.Vs)) ≡ true → VsRow s m n start granules
 vs_row s call m n start granules w e h =
     let k = caller_view m 0 in
     let r = (and_parts (k.entered && k.vs) _ (row_of s m (by_zero (acts.Place start granules layers.Vs)) h)).1 in
