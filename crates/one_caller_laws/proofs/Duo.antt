@@ -35,6 +35,7 @@ pub record DuoAt (s : Setting) (call : Call) (m : Configuration) (rest : List Ac
   pub at_too : Configuration
   pub later_too : List Act
   pub duo : Duo s call at (act ∷ later) at_too (other ∷ later_too)
+  pub core_stays : core_of at ≡ core_of m
   pub shape : shape_of later ≡ t
   pub shape_too : shape_of later_too ≡ u
   pub ends : configuration_by s m rest ≡ configuration_by s (after s at (by_zero act)) later
@@ -58,6 +59,7 @@ duo_at s call m rest n others act t other u d e f p q =
         core = x.core ∙ d.core ∙ sym y.core;
         hints = λ b t. hints_at x.at m x.core x.hints b t ∙ d.hints b t ∙ sym (hints_at y.at n y.core y.hints b t);
       };
+      core_stays = x.core;
       shape = x.shape;
       shape_too = y.shape;
       ends = x.ends;

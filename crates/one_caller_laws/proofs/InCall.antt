@@ -211,11 +211,11 @@ never_unspanned s call m first w whole plain h =
 abbrev pub SearchesNone : Setting → Configuration → Type 0
 SearchesNone s m = for_some (request_of s m 0).bucket (goes_to_lfh m.state.vs) ≡ false
 
-none_searched : (v : VsPart) (o : Option ℕ) → for_some o (goes_to_lfh v) ≡ false → searched v.active o ≡ None
+pub none_searched : (v : VsPart) (o : Option ℕ) → for_some o (goes_to_lfh v) ≡ false → searched v.active o ≡ None
 none_searched v None h = refl
 none_searched v (Some b) h = let e = (or_parts (v.active b) (is_due v b) h).0 in rw e refl
 
-not_searching : (k : CallerView) (r : Request) (test : ℕ → Bool) → r.search ≡ None → searches k r test ≡ true → ⊥
+pub not_searching : (k : CallerView) (r : Request) (test : ℕ → Bool) → r.search ≡ None → searches k r test ≡ true → ⊥
 not_searching k r test e h = false≢true (ap (λ (o : Option ℕ). for_some o test) (sym e) ∙ (and_parts k.entered (for_some r.search test) h).1)
 
 -- acts that a call shows, and those that make a span

@@ -13,3 +13,5 @@ pub mod Ways
 pub mod Sites
 pub mod Makes
 pub mod Spans
+pub mod Placing
+pub mod Allocs

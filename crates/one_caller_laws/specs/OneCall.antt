@@ -1,13 +1,18 @@
 -- One call of one caller: what it is answered, and what it leaves, is a function of what it found.
-use Rattle.std.specs.Prelude.{◌≡◌, ℕ, true, List, [], ◌∷◌}
+use Rattle.std.specs.Prelude.{◌≡◌, ℕ, true, false, List, [], ◌∷◌}
 use Rattle.heap_model.specs.declared.Call.{Call}
+use Rattle.heap_model.specs.declared.Call.TheVariants as calls
+use Rattle.heap_model.specs.declared.Flags.{Flags}
 use Rattle.heap_model.specs.declared.Act.{Act}
 use Rattle.heap_model.specs.declared.Act.TheVariants as acts
 use Rattle.heap_model.specs.declared.Reply.{Reply}
 use Rattle.heap_model.specs.declared.Reply.TheVariants as replies
+use Rattle.heap_model.specs.Buckets.{bucket_of}
 use Rattle.heap_model.specs.State.{Setting, IsValidSetting}
+use Rattle.heap_model.specs.Stay.{for_some}
 use Rattle.heap_model.specs.CallState.{Configuration}
 use Rattle.heap_model.specs.Search.{hint}
+use Rattle.heap_model.specs.Legal.{goes_to_lfh}
 use Rattle.heap_model.specs.History.{first_configuration}
 use Rattle.heap_model.specs.Alone.{configuration_by, may_all_come}
 use Rattle.heap_model.specs.Moments.{moments_by}
@@ -46,3 +51,14 @@ abbrev pub IsDetermined : Call → Type 0
 IsDetermined call = (s : Setting) (m n : Configuration) (reply other : Reply) (rest others : List Act) →
     IsValidSetting s → IsBetween s m → IsBetween s n → AreAlike m n → Answers s m call reply rest → Answers s n call other others →
     IsSameReply reply other × AreAlike (configuration_by s m (acts.Begin call ∷ rest)) (configuration_by s n (acts.Begin call ∷ others))
+
+-- The front end has no part in a block of so many bytes: its size has no bucket, or one that is neither active nor due.
+abbrev pub IsForOthers : Configuration → ℕ → Type 0
+IsForOthers m n = for_some (bucket_of n) (goes_to_lfh m.state.vs) ≡ false
+
+-- Of an allocation in which the front end has no part it is so, whichever layer serves or refuses it.
+abbrev pub AllocationIsDetermined : Type 0
+AllocationIsDetermined = (s : Setting) (m k : Configuration) (reply other : Reply) (rest others : List Act) (n : ℕ) (flags : Flags) →
+    IsValidSetting s → IsBetween s m → IsBetween s k → AreAlike m k → IsForOthers m n →
+    Answers s m (calls.Alloc n flags) reply rest → Answers s k (calls.Alloc n flags) other others →
+    IsSameReply reply other × AreAlike (configuration_by s m (acts.Begin (calls.Alloc n flags) ∷ rest)) (configuration_by s k (acts.Begin (calls.Alloc n flags) ∷ others))
