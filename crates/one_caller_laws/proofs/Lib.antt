@@ -1,0 +1,17 @@
+pub mod Gate
+pub mod Core
+pub mod Whole
+pub mod InCall
+pub mod Reach
+pub mod Pair
+pub mod Duo
+pub mod Asks
+pub mod Words
+pub mod Closing
+pub mod Freeing
+pub mod Ways
+pub mod Sites
+pub mod Makes
+pub mod Spans
+pub mod Placing
+pub mod Allocs

@@ -1,0 +1,46 @@
+// What one caller alone is answered is determined: each law is the contract of a function that does nothing.
+#![tactic(auto)]
+
+ghost use Rattle.std.specs.Prelude.{ℕ};
+ghost use Rattle.heap_model.specs.declared.Call.TheVariants as calls;
+ghost use Rattle.one_caller_laws.specs.OneCall.{AllocationIsDetermined, IsDetermined};
+
+/// An allocation in which the front end has no part: large, of the back end, or of the variable-size layer.
+pub fn allocation_is_determined()
+    ensures { AllocationIsDetermined }
+{}
+
+/// A free.
+pub fn free_is_determined()
+    ensures { (a : ℕ) → IsDetermined (calls.Free a) }
+{}
+
+/// A question for the size of a block.
+pub fn size_is_determined()
+    ensures { (a : ℕ) → IsDetermined (calls.Size a) }
+{}
+
+/// A word that is read.
+pub fn get_is_determined()
+    ensures { (a index : ℕ) → IsDetermined (calls.Get a index) }
+{}
+
+/// A word that is written.
+pub fn put_is_determined()
+    ensures { (a index value : ℕ) → IsDetermined (calls.Put a index value) }
+{}
+
+/// The heap lock, where the depth does not answer.
+pub fn lock_is_determined()
+    ensures { IsDetermined calls.Lock }
+{}
+
+/// .. and given back.
+pub fn unlock_is_determined()
+    ensures { IsDetermined calls.Unlock }
+{}
+
+/// A step of a walk.
+pub fn walk_is_determined()
+    ensures { (from : ℕ) → IsDetermined (calls.WalkNext from) }
+{}
