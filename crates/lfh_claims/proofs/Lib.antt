@@ -1,0 +1,5 @@
+pub mod Hands
+pub mod Acting
+pub mod Exchanges
+pub mod Claiming
+pub mod Stays
