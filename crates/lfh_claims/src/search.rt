@@ -64,7 +64,7 @@ pub fn claim<T: Stands>(heap: &Heap<T>, c: &mut Caller<T>, head: u32, index: u16
     );
     c.prepared.clear();
     c.pending = false;
-    let free = bits >> bit & 1 == 0;
+    let free = (bits >> bit) % 2 == 0;
     if free {
         c.free = false;
     }
