@@ -1,6 +1,6 @@
 -- A caller behind a reading that adds no entry.
-use Rattle.std.proofs.Common.{◌≡◌, ℕ, ◌+◌, ◌%◌, ◌<◌, ◌≤◌, arith, eq-eqb, ne_eqb, ◌==◌, Bool, true, false, not, List, [], Option, refl, sym, ap, ◌∙◌, subst}
-use Rattle.std.proofs.lemmas.Bool.{eqb-true, false≢true}
+use Rattle.std.proofs.Common.{◌≡◌, ℕ, ◌+◌, ◌%◌, ◌<◌, ◌≤◌, arith, eq-eqb, ne_eqb, ◌==◌, Bool, true, false, not, List, [], Option, Some, refl, sym, ap, ◌∙◌, subst}
+use Rattle.std.specs.Option.{IsSome}
 use Rattle.atomic_table.specs.Table.{Me}
 use Rattle.atomic_table.specs.Seated.{TableId}
 use Rattle.rand_core.specs.Stream.{Stream}
@@ -31,14 +31,18 @@ parts_told m page word h =
     (record { first = subst (λ (b : ℕ). 1 ≤ b) p.1 h.bucket.0; last = subst (λ (b : ℕ). b ≤ 128) p.1 h.bucket.1 }, subst (λ (t : ℕ). t < 16) p.2 h.slot)
 
 -- the word that was found has the bit, or has not
-pub clear_bit : (x : ℕ) → (x % 2 == 0) ≡ true → (x % 2 == 1) ≡ false
-clear_bit x e = let z = eqb-true (x % 2) 0 e in rw z refl
+pub clear_bit : (x : ℕ) → x % 2 ≡ 0 → (x % 2 == 1) ≡ false
+clear_bit x z = rw z refl
 
-pub set_bit : (x : ℕ) → (x % 2 == 0) ≡ false → (x % 2 == 1) ≡ true
-set_bit x e =
-    let nz : x % 2 ≡ 0 → ⊥ = λ z. absurd (false≢true (sym e ∙ eq-eqb (x % 2) 0 z)) in
-    let one : x % 2 ≡ 1 = omega arith in
-    eq-eqb (x % 2) 1 one
+pub set_bit : (x : ℕ) → (x % 2 ≡ 0 → ⊥) → (x % 2 == 1) ≡ true
+set_bit x nz = let one : x % 2 ≡ 1 = omega arith in eq-eqb (x % 2) 1 one
+
+-- what a search for an index found
+pub is_there : (o : Option ℕ) (i : ℕ) → o ≡ Some i → IsSome o
+is_there o i e = subst IsSome (sym e) refl
+
+pub one_index : (i j : ℕ) → Some i ≡ Some j → i ≡ j
+one_index i j e = cc (e)
 
 module _ {T : Type 0} (z : TableId) (me : Me (Option T) View) (f : Face) (slot : ℕ) (stream : Stream) (h : IsCaller me (tok z me f) slot stream) (me' : Me (Option T) View) (go : Goes f.number me.0 me'.0 f.prepared []) where
   pub sooner : (s : Setting) → IsSettingOf me'.0.opening me'.0.roll s → IsSettingOf me.0.opening me.0.roll s

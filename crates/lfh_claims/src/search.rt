@@ -49,9 +49,9 @@ pub fn claim<T: Stands>(heap: &Heap<T>, c: &mut Caller<T>, head: u32, index: u16
     ensures claimed { result ≡ true → HasClaimed c.old c.new head index }
     ensures lost { result ≡ false → HasLost c.old c.new head index }
 {
-    let index = u32::from(index);
-    let at = bitmap_at(&heap.limits(), head, index / WORD_BITS) as usize;
-    let bit = index % WORD_BITS;
+    let number = u32::from(index);
+    let at = bitmap_at(&heap.limits(), head, number / WORD_BITS) as usize;
+    let bit = number % WORD_BITS;
     let bits = claim_by::<T, Brand, Brand>(
         &heap.table.shared,
         &mut c.place,

@@ -31,8 +31,8 @@ invariant_of-c g c =
     let go = goes_by z me f i.slot stream h p.me.0 (λ n. entry n (acts.NotLive addr) ∷ []) none.adds in
     (denying z me f i.slot stream h w p.me none.slot p.table_id c.take_by-word.ensures.table c.clear.new.self.items c.clear.ensures none.owes addr go).caller
 
-pub returns-clause-none : goal.returns-clause-none
-returns-clause-none g c =
+pub returns-then-word-eq0-clause-none : goal.returns-then-word-eq0-clause-none
+returns-then-word-eq0-clause-none g c =
     let i = c.c.inside in let f : Face = record { number = i.number; prepared = i.prepared.items; pending = i.pending; call = i.call; fresh = i.fresh; locked = i.locked; inside = i.inside; depth = i.depth; whole = i.whole; free = i.free; drawn = i.drawn } in let h = c.c.invariant in let z = i.place.table_id in let me = i.place.me in let stream = words_of i.draws in let v = c.c.view_is in
     let w = ap (λ (t : Token). t.whole) v ∙ c.requires.whole in
     let p = c.take_by-word.new.place in let told = c.take_by-word.ensures.told in

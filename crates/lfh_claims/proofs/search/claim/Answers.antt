@@ -35,7 +35,8 @@ invariant_of-c g c =
     let in_is = ap (λ (t : Token). t.inside) v ∙ c.requires.inside in
     let p = c.claim_by-bits.new.place in let told = c.claim_by-bits.ensures.told in
     let head = c.args.head in let index = c.args.index in let bits = c.claim_by-bits.result in
-    let free = told.free (clear_bit (bits / 2 ^ (index % 64)) c.if-free.true) in
+    let zero = subst (λ (k : ℕ). bits / 2 ^ (k % 64) % 2 ≡ 0) c.from-number.ensures c.if-free.true in
+    let free = told.free (clear_bit (bits / 2 ^ (index % 64)) zero) in
     let go = goes_by z me f i.slot stream h p.me.0 (λ n. entry n (acts.Place (block_address (sought (tok z me f)) head index) (block_size (sought (tok z me f)) / 16) layers.Lfh) ∷ []) free.adds in
     (claiming z me f i.slot stream h w in_is p.me free.slot p.table_id c.claim_by-bits.ensures.table c.clear.new.self.items c.clear.ensures head index free.owes go).caller
 
@@ -46,7 +47,8 @@ invariant_of-c-else-free g c =
     let in_is = ap (λ (t : Token). t.inside) v ∙ c.requires.inside in
     let p = c.claim_by-bits.new.place in let told = c.claim_by-bits.ensures.told in
     let head = c.args.head in let index = c.args.index in let bits = c.claim_by-bits.result in
-    let lost = told.taken (set_bit (bits / 2 ^ (index % 64)) c.if-free.false) in
+    let nz = subst (λ (k : ℕ). bits / 2 ^ (k % 64) % 2 ≡ 0 → ⊥) c.from-number.ensures c.if-free.false in
+    let lost = told.taken (set_bit (bits / 2 ^ (index % 64)) nz) in
     let go = goes_by z me f i.slot stream h p.me.0 (λ n. entry n (acts.Lost head index) ∷ []) lost.adds in
     (losing z me f i.slot stream h w in_is p.me lost.slot p.table_id c.claim_by-bits.ensures.table c.clear.new.self.items c.clear.ensures lost.owes head index go).caller
 
@@ -57,7 +59,8 @@ returns-then-free-clause-claimed g c =
     let in_is = ap (λ (t : Token). t.inside) v ∙ c.requires.inside in
     let p = c.claim_by-bits.new.place in let told = c.claim_by-bits.ensures.told in
     let head = c.args.head in let index = c.args.index in let bits = c.claim_by-bits.result in
-    let free = told.free (clear_bit (bits / 2 ^ (index % 64)) c.if-free.true) in
+    let zero = subst (λ (k : ℕ). bits / 2 ^ (k % 64) % 2 ≡ 0) c.from-number.ensures c.if-free.true in
+    let free = told.free (clear_bit (bits / 2 ^ (index % 64)) zero) in
     let go = goes_by z me f i.slot stream h p.me.0 (λ n. entry n (acts.Place (block_address (sought (tok z me f)) head index) (block_size (sought (tok z me f)) / 16) layers.Lfh) ∷ []) free.adds in
     λ _. subst (λ (t : Token). HasClaimed t (tok p.table_id p.me (claimed_face z me f i.slot stream h w in_is p.me free.slot p.table_id c.claim_by-bits.ensures.table c.clear.new.self.items c.clear.ensures head index free.owes go)) head index) v (has_claimed z me f i.slot stream h w in_is p.me free.slot p.table_id c.claim_by-bits.ensures.table c.clear.new.self.items c.clear.ensures head index free.owes go free.tells)
 
@@ -68,6 +71,7 @@ returns-else-free-clause-lost g c =
     let in_is = ap (λ (t : Token). t.inside) v ∙ c.requires.inside in
     let p = c.claim_by-bits.new.place in let told = c.claim_by-bits.ensures.told in
     let head = c.args.head in let index = c.args.index in let bits = c.claim_by-bits.result in
-    let lost = told.taken (set_bit (bits / 2 ^ (index % 64)) c.if-free.false) in
+    let nz = subst (λ (k : ℕ). bits / 2 ^ (k % 64) % 2 ≡ 0 → ⊥) c.from-number.ensures c.if-free.false in
+    let lost = told.taken (set_bit (bits / 2 ^ (index % 64)) nz) in
     let go = goes_by z me f i.slot stream h p.me.0 (λ n. entry n (acts.Lost head index) ∷ []) lost.adds in
     λ _. subst (λ (t : Token). HasLost t (tok p.table_id p.me (lost_face z me f i.slot stream h w in_is p.me lost.slot p.table_id c.claim_by-bits.ensures.table c.clear.new.self.items c.clear.ensures lost.owes head index go)) head index) v (has_lost z me f i.slot stream h w in_is p.me lost.slot p.table_id c.claim_by-bits.ensures.table c.clear.new.self.items c.clear.ensures lost.owes head index go)
