@@ -4,3 +4,4 @@ pub mod Exchanges
 pub mod Looking
 pub mod Claiming
 pub mod Stays
+pub mod Known
