@@ -150,6 +150,7 @@ pub(crate) fn install_by<T: Stands, B: Target, R: Carried, E: Carried>(
     _subsegment: Subsegment,
     _index: u16,
     _hint: u64,
+    _number: u32,
     _reserved: u32,
     word: usize,
     bit: u64,

@@ -41,8 +41,9 @@ pub fn look_hint<T: Stands>(heap: &Heap<T>, c: &mut Caller<T>, bucket: u8, slot:
     ensures runs { Runs c.old c.new [] }
     ensures stands { Standing c.new (stance c.old) }
     ensures word { Always c.new (λ s. IsHintWord (now s c.new) c.old.number bucket slot c.old.owes result) }
-    ensures small { result < 4096 }
+    ensures small { result < 256 * c.new.opening.limits.segments }
 {
+    let limits = heap.limits();
     let at = hint_at(bucket, slot as u8) as usize;
     let word = look_hint_by::<T, Brand, Brand>(
         &heap.table.shared,
@@ -102,6 +103,7 @@ pub fn make<T: Stands>(
         at,
         index,
         hint,
+        c.number,
         reserved,
         word,
         bit,
@@ -132,12 +134,15 @@ fn put_tag<T: Stands>(heap: &Heap<T>, c: &mut Caller<T>, page: u32, tag: u64)
 pub fn tag_pages<T: Stands>(heap: &Heap<T>, c: &mut Caller<T>, at: Subsegment)
     requires table { (c.old.table ≡ heap.now.table) × (c.old.opening ≡ heap.now.opening) }
     requires whole { c.old.whole ≡ true }
+    requires ready { (c.old.pending ≡ false) × (c.old.prepared ≡ []) }
     requires held { is_out whats.Back c.old.out ≡ true }
     requires few { (at.head + at.pages ≤ 256 * c.old.opening.limits.segments) × (at.slot < 16) }
     requires tags { Always c.old (λ s. AreTagged (now s c.old) at.head at.pages (1 + 256 * at.bucket + 65536 * at.slot + 4294967296 * at.head)) }
-    ensures runs { (0 < at.pages) → Runs c.old c.new [] }
-    ensures stands { (0 < at.pages) → Standing c.new (record (stance c.old) { owes = paid_tags at.head at.pages c.old.owes }) }
+    ensures runs { Runs c.old c.new [] }
+    ensures stands { Standing c.new (record (stance c.old) { owes = paid_tags at.head at.pages c.old.owes }) }
 {
+    c.check();
+    let _bounds = heap.limits();
     let tag = 1
         + 256 * u64::from(at.bucket)
         + 65536 * u64::from(at.slot)
@@ -168,11 +173,14 @@ fn clear_tag<T: Stands>(heap: &Heap<T>, c: &mut Caller<T>, page: u32)
 pub fn clear_tags<T: Stands>(heap: &Heap<T>, c: &mut Caller<T>, at: Subsegment)
     requires table { (c.old.table ≡ heap.now.table) × (c.old.opening ≡ heap.now.opening) }
     requires whole { c.old.whole ≡ true }
+    requires ready { (c.old.pending ≡ false) × (c.old.prepared ≡ []) }
     requires held { is_out whats.Back c.old.out ≡ true }
     requires few { at.head + at.pages ≤ 256 * c.old.opening.limits.segments }
-    ensures runs { (0 < at.pages) → Runs c.old c.new [] }
-    ensures stands { (0 < at.pages) → Standing c.new (record (stance c.old) { owes = owed_tags at.head at.pages c.old.owes }) }
+    ensures runs { Runs c.old c.new [] }
+    ensures stands { Standing c.new (record (stance c.old) { owes = owed_tags at.head at.pages c.old.owes }) }
 {
+    c.check();
+    let _bounds = heap.limits();
     for done in 0..at.pages {
         clear_tag(heap, c, at.head + done);
     }
