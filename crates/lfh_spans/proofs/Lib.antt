@@ -1,0 +1,4 @@
+pub mod Quiet
+pub mod Making
+pub mod Heads
+pub mod Joined
