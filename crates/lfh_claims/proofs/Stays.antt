@@ -1,8 +1,7 @@
 -- What a caller has read since it entered stays, while it is inside.
 use Rattle.std.proofs.Common.{◌≡◌, ℕ, ◌==◌, Bool, true, false, ◌&&◌, ◌++◌, List, [], ◌∷◌, refl, sym, ap, ◌∙◌, subst, inl, inr, eqb, eq-eqb}
 use Rattle.std.specs.List.{list_any}
-use Rattle.std.proofs.lemmas.Bool.{cases_Bool, and_parts, and_from, both_ways, false≢true, eqb-true, eqb-false}
-use mathlib.Core.List.{IsPrefix}
+use Rattle.std.proofs.lemmas.Bool.{cases_Bool, and_parts, and_from, false≢true, eqb-true, eqb-false}
 use Rattle.heap_model.specs.declared.Act.{Act}
 use Rattle.heap_model.specs.declared.Act.TheVariants as acts
 use Rattle.heap_model.specs.declared.Entry.{Entry}
@@ -11,7 +10,6 @@ use Rattle.heap_model.specs.declared.Kind.TheVariants as kinds
 use Rattle.heap_model.specs.declared.Opening.{Opening}
 use Rattle.heap_model.specs.declared.What.TheVariants as whats
 use Rattle.heap_model.specs.State.{State, Setting, GateAndLocks, Span, is_among, is_entered, is_kind}
-use Rattle.heap_model.specs.Backend.{in_span}
 use Rattle.heap_model.specs.CallState.{Configuration, CallState}
 use Rattle.heap_model.specs.Legal.{may_follow, after, state_after}
 use Rattle.heap_model.specs.History.{configuration_after, configuration_of, first_configuration, may_all_follow, own}
@@ -19,16 +17,12 @@ use Rattle.heap_model.specs.Agreement.{GateIsSound}
 use Rattle.heap_model.proofs.GateSound.{row_of, gate_sound_act, gate_sound_after, gate_sound_first}
 use Rattle.heap_model.proofs.Others.{act_other}
 use Rattle.heap_model.proofs.Undisturbed.{spans_stay}
-use Rattle.heap_soundness.specs.Sound.{IsOneOf}
 use Rattle.heap_soundness.proofs.Enums.{kind_is}
 use Rattle.heap_soundness.proofs.Lists.{any_in, any_found}
-use Rattle.claim_rule.specs.declared.views.Assignment.{Assignment}
 use Rattle.claim_rule.specs.Entries.{IsSettingOf}
-use Rattle.claim_rule.specs.Shown.{lfh_spans}
 use Rattle.claim_rule.proofs.Lists.{after-append, follow_parts, legal_parts, own-append, setting_less}
-use Rattle.step_parts.specs.Seen.{IsSeen}
 use Rattle.step_parts.proofs.BlockWords.{in_lfh, into_lfh}
-use Rattle.heap_gate.specs.Token.{Token, now, Always}
+use Rattle.heap_gate.specs.Token.{Token, now}
 use Rattle.heap_gate.specs.Calls.{Does}
 use Rattle.lfh_claims.specs.Stays.{stays_in, all_stay, leaves_spans, all_leave_spans, IsInside, HasRead}
 

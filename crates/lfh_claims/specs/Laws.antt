@@ -1,7 +1,7 @@
 -- What a caller may do by what earlier calls told it, in words of the token.
-use Rattle.std.specs.Prelude.{◌≡◌, ℕ, ◌/◌, ◌%◌, ◌<◌, ◌≤◌, true, is_some, List, ◌++◌, Some}
+use Rattle.std.specs.Prelude.{◌≡◌, ℕ, ◌/◌, ◌%◌, ◌≤◌, true, List, ◌++◌, Some}
 use Rattle.heap_model.specs.declared.Entry.{Entry}
-use Rattle.heap_model.specs.Buckets.{block_address, block_count, block_size}
+use Rattle.heap_model.specs.Buckets.{block_size}
 use Rattle.heap_model.specs.Search.{request_of}
 use Rattle.step_parts.specs.InHand.{HasBlock, IsBlockNumber}
 use Rattle.block_steps.specs.Blocks.{MayAsk, MayPublish}
