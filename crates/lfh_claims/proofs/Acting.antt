@@ -85,7 +85,7 @@ module _ {T : Type 0} (z : TableId) (me : Me (Option T) View) (f : Face) (slot :
     behind_act P g s q =
         let y = go.goes s q in
         subst (P s) (sym y.behind) (g s (earlier s q) y.before y.agrees
-            (at_agrees s y.before (Ready s) f.number f.call f.fresh f.inside f.depth (outs me.1) f.whole f.free y.agrees y.whole (h.at s (earlier s q))))
+        (at_agrees s y.before (Ready s) f.number f.call f.fresh f.inside f.depth (outs me.1) f.whole f.free y.agrees y.whole (h.at s (earlier s q))))
 
     module _ (free : Bool) (marks' : SearchMarks) where
       abbrev pub then : Behind z me f slot stream h

@@ -68,17 +68,21 @@ publishes_in_hand c b addr size inside has long few s q =
     }
 
 pub clears_in_hand : ClearsInHand
-clears_in_hand c tag addr inside read number has = (number.number, number.start, λ s q.
-    let k = has s q in
-    let m : Configuration = now s c in
-    let h : IsInHand m c.number (block_address tag.bucket tag.head number.number) = subst (IsInHand m c.number) number.start k.hand in
-    record {
-      inside = inside s q;
-      hand = h;
-      seen = read s q;
-      below = number.below;
-      ok = and_from (is_entered m.state.gate c.number) _ (inside s q) (ap (λ (o : Option Place). for_some o (λ y. may_touch (caller_view m c.number) y.layer)) h.hand ∙ ap (may_touch (caller_view m c.number)) h.layer);
-    })
+clears_in_hand c tag addr inside read number has = (
+  number.number,
+  number.start,
+  λ s q.
+      let k = has s q in
+      let m : Configuration = now s c in
+      let h : IsInHand m c.number (block_address tag.bucket tag.head number.number) = subst (IsInHand m c.number) number.start k.hand in
+      record {
+        inside = inside s q;
+        hand = h;
+        seen = read s q;
+        below = number.below;
+        ok = and_from (is_entered m.state.gate c.number) _ (inside s q) (ap (λ (o : Option Place). for_some o (λ y. may_touch (caller_view m c.number) y.layer)) h.hand ∙ ap (may_touch (caller_view m c.number)) h.layer);
+      },
+)
 
 pub sought_is : SoughtIs
 sought_is c b h = ap (λ (o : Option ℕ). unwrap_or o 0) (h (setting_of c.opening c.roll) (some_setting c.opening c.roll))
