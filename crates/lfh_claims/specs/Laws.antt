@@ -17,6 +17,12 @@ abbrev pub ReadStays : Type 0
 ReadStays =
     (old new : Token) (es : List Entry) (head b t : ℕ) → Does old new es → all_stay (old.prepared ++ es) ≡ true → all_leave_spans old.prepared ≡ true → IsInside old → HasRead old head b t → HasRead new head b t
 
+-- Where such a caller may ask for a block, it still may.
+abbrev pub AskStays : Type 0
+AskStays =
+    (old new : Token) (es : List Entry) (addr head b t : ℕ) → Does old new es → all_stay (old.prepared ++ es) ≡ true → all_leave_spans old.prepared ≡ true → IsInside old → Always old (λ s. MayAsk (now s old) old.number head b t addr)
+    → IsStanding new → new.inside ≡ true → Always new (λ s. MayAsk (now s new) new.number head b t addr)
+
 -- a subsegment counts as read behind the reading of a tag
 abbrev pub ReadByTag : Type 0
 ReadByTag = (old new : Token) (page : ℕ) (tag : Tag) → HasTag old new page (Some tag) → HasRead new tag.head tag.bucket tag.slot
