@@ -12,6 +12,7 @@ use Rattle.heap_model.specs.Legal.{after, with_places, with_status, layer_of, on
 use Rattle.heap_model.specs.History.{configuration_after, configuration_of, first_configuration}
 use Rattle.heap_model.specs.Agreement.{HasHomes}
 use Rattle.heap_model.proofs.Homes.{homes_act, hand_found}
+use Rattle.serial_laws.proofs.Found.{find_front}
 use Rattle.step_parts.proofs.BlocksInHand.{found_lfh}
 use Rattle.step_parts.proofs.ChangedPlaces.{with_lfh, lfh_address}
 use Rattle.lfh_claims.specs.Moves.{IsWith}
@@ -131,13 +132,6 @@ module _ (st : State) (homes : HasHomes st) (n a : ℕ) (p : Place) (at : hand_a
       (with_others st n (remove_found (is_hand_at n a) st.lfh) st.lfh p a starts l (dropped_one n a st.lfh p in_lfh))
 
 ---- A live block is taken
-
-find_front : {A : Type 0} (t : A → Bool) (xs ys : List A) (p : A) → find t xs ≡ Some p → find t (xs ++ ys) ≡ Some p
-find_front t [] ys p e = no_found p e
-find_front t (x ∷ xs) ys p e = elim (cases_Bool (t x)) [
-  | inl g ↦ let k : Some x ≡ Some p = (rw g at e) in rw g k
-  | inr g ↦ rw g (find_front t xs ys p (rw g at e))
-]
 
 -- a place in hand is found before any other
 found_hand : (st : State) (n a : ℕ) (p : Place) → hand_at st n a ≡ Some p → place_at st n a ≡ Some p
