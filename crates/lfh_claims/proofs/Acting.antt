@@ -1,12 +1,9 @@
 -- A caller behind one act on words of the front end.
-use Rattle.std.proofs.Common.{◌≡◌, ℕ, ◌==◌, ◌||◌, Bool, true, false, not, List, [], ◌∷◌, Option, Some, None, refl, sym, ap, ◌∙◌, subst, eq-eqb}
-use Rattle.std.specs.Prelude.{is_some}
-use Rattle.std.proofs.lemmas.Bool.{false≢true}
+use Rattle.std.proofs.Common.{◌≡◌, ℕ, Bool, true, false, List, [], ◌∷◌, Option, Some, None, refl, sym, ap, ◌∙◌, subst, eq-eqb}
 use Rattle.atomic_table.specs.Table.{Me}
 use Rattle.atomic_table.specs.Seated.{TableId}
 use Rattle.rand_core.specs.Stream.{Stream}
 use Rattle.heap_model.specs.declared.Act.{Act}
-use Rattle.heap_model.specs.declared.Act.TheVariants as acts
 use Rattle.heap_model.specs.declared.Call.{Call}
 use Rattle.heap_model.specs.declared.Entry.{Entry}
 use Rattle.heap_model.specs.State.{Setting, GateAndLocks, Place, is_among, is_caller, is_entered, hands, holds, updated}
@@ -20,14 +17,13 @@ use Rattle.claim_rule.specs.declared.views.Owed.{Owed}
 use Rattle.claim_rule.specs.declared.views.View.{View}
 use Rattle.claim_rule.specs.Entries.{IsSettingOf, entry}
 use Rattle.claim_rule.specs.Rule.{ready_after}
-use Rattle.claim_rule.specs.Plays.{Goes, GoesIn, number_of}
+use Rattle.claim_rule.specs.Plays.{Goes, number_of}
 use Rattle.claim_rule.proofs.Gate.{one_by}
 use Rattle.heap_gate.specs.Token.{IsAt, IsCaller, SearchMarks, search_mark, AreOut, Always, now, outs}
 use Rattle.heap_gate.specs.Seated.{Face, tok}
 use Rattle.heap_gate.specs.Calls.{Does, Runs}
 use Rattle.heap_gate.proofs.Standing.{at_agrees}
-use Rattle.heap_gate.proofs.Tokens.{At, Behind, Acted, acted, as_was, faced, marks, moved_by, by_it, setting_before, with_left, one_agrees}
-use Rattle.lfh_claims.specs.Moves.{Moves, Takes, IsWith, IsBehindAct}
+use Rattle.heap_gate.proofs.Tokens.{At, Behind, Acted, acted, faced, marks, moved_by, setting_before, with_left, one_agrees}
 
 updated_here : {A : Type 0} (f : ℕ → A) (n : ℕ) (x : A) → updated f n x n ≡ x
 updated_here f n x = let e = eq-eqb n n refl in rw e refl
@@ -89,7 +85,7 @@ module _ {T : Type 0} (z : TableId) (me : Me (Option T) View) (f : Face) (slot :
     behind_act P g s q =
         let y = go.goes s q in
         subst (P s) (sym y.behind) (g s (earlier s q) y.before y.agrees
-            (at_agrees s y.before (Ready s) f.number f.call f.fresh f.inside f.depth (outs me.1) f.whole f.free y.agrees y.whole (h.at s (earlier s q))))
+        (at_agrees s y.before (Ready s) f.number f.call f.fresh f.inside f.depth (outs me.1) f.whole f.free y.agrees y.whole (h.at s (earlier s q))))
 
     module _ (free : Bool) (marks' : SearchMarks) where
       abbrev pub then : Behind z me f slot stream h

@@ -1,5 +1,5 @@
 -- A caller behind the reading of a word in its search, and behind a claim.
-use Rattle.std.proofs.Common.{◌≡◌, ◌/◌, ℕ, Bool, true, false, List, [], ◌∷◌, Option, refl, sym, ap, ◌∙◌, eq-eqb}
+use Rattle.std.proofs.Common.{◌≡◌, ◌/◌, ℕ, true, false, List, [], ◌∷◌, Option, refl, sym, ◌∙◌, eq-eqb}
 use Rattle.std.proofs.lemmas.Bool.{false≢true}
 use Rattle.atomic_table.specs.Table.{Me}
 use Rattle.atomic_table.specs.Seated.{TableId}
@@ -9,7 +9,7 @@ use Rattle.heap_model.specs.declared.Entry.{Entry}
 use Rattle.heap_model.specs.declared.Layer.TheVariants as layers
 use Rattle.heap_model.specs.declared.What.TheVariants as whats
 use Rattle.heap_model.specs.Buckets.{block_address, block_size}
-use Rattle.heap_model.specs.State.{Setting, Place, hands}
+use Rattle.heap_model.specs.State.{Setting, hands}
 use Rattle.heap_model.specs.CallState.{Configuration}
 use Rattle.heap_model.specs.Search.{asked_bucket, after_saw, after_lost}
 use Rattle.heap_model.specs.Legal.{after}
@@ -24,7 +24,7 @@ use Rattle.heap_gate.specs.Seated.{Face, tok}
 use Rattle.heap_gate.proofs.Tokens.{Acted, faced, marks, with_left}
 use Rattle.lfh_claims.specs.Moves.{block_place}
 use Rattle.lfh_claims.specs.Search.{sought, own_slot, own_hint, HasSeen, HasClaimed, HasLost}
-use Rattle.lfh_claims.proofs.Acting.{IsPlain, search_call, told_in, then, doing, agreed, hands_of, runs_then}
+use Rattle.lfh_claims.proofs.Acting.{search_call, told_in, then, doing, agreed, hands_of, runs_then}
 
 module _ {T : Type 0} (z : TableId) (me : Me (Option T) View) (f : Face) (slot : ℕ) (stream : Stream) (h : IsCaller me (tok z me f) slot stream) (w : f.whole ≡ true) (in_is : f.inside ≡ true)
     (me' : Me (Option T) View) (slots : me'.1 ≡ me.1) (z' : TableId) (ez : z' ≡ z) (left : List Entry) (le : left ≡ []) where

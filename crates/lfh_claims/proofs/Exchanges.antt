@@ -1,5 +1,5 @@
 -- A caller behind an act on a block, by its size word or its bit, and behind an active word.
-use Rattle.std.proofs.Common.{◌≡◌, ℕ, ◌&&◌, Bool, true, false, List, [], ◌∷◌, Option, Some, None, refl, sym, ap, ◌∙◌, subst}
+use Rattle.std.proofs.Common.{◌≡◌, ℕ, ◌&&◌, true, false, List, [], ◌∷◌, Option, Some, None, refl, sym, ap, ◌∙◌, subst}
 use Rattle.std.specs.List.{find}
 use Rattle.std.proofs.lemmas.Bool.{and_parts, false≢true}
 use Rattle.atomic_table.specs.Table.{Me}
@@ -8,12 +8,12 @@ use Rattle.rand_core.specs.Stream.{Stream}
 use Rattle.heap_model.specs.declared.Act.{Act}
 use Rattle.heap_model.specs.declared.Act.TheVariants as acts
 use Rattle.heap_model.specs.declared.Entry.{Entry}
-use Rattle.heap_model.specs.State.{State, Setting, Place, Live, InHand, has_address, is_entered, is_hand_at, is_live_at, is_live_of, hands, hand_at, place_at, change_found, remove_found}
+use Rattle.heap_model.specs.State.{State, Setting, Place, Live, has_address, is_entered, is_hand_at, is_live_of, hands, hand_at, place_at, change_found, remove_found}
 use Rattle.heap_model.specs.Stay.{for_some}
 use Rattle.heap_model.specs.CallState.{Configuration, caller_view}
 use Rattle.heap_model.specs.Legal.{after, may_follow, may_touch, with_places, with_status, layer_of}
-use Rattle.heap_model.specs.History.{configuration_after, configuration_of}
-use Rattle.heap_model.specs.Agreement.{AgreesFor, HasHomes, reveals_nothing}
+use Rattle.heap_model.specs.History.{configuration_of}
+use Rattle.heap_model.specs.Agreement.{HasHomes, reveals_nothing}
 use Rattle.heap_model.proofs.GateSound.{row_of}
 use Rattle.heap_model.proofs.Stable.{same_hands, same_hand_at}
 use Rattle.claim_rule.specs.declared.views.View.{View}
@@ -25,7 +25,7 @@ use Rattle.block_steps.proofs.InHandWords.{no_unspan}
 use Rattle.heap_gate.specs.Token.{IsCaller, Always, now}
 use Rattle.heap_gate.specs.Seated.{Face, tok}
 use Rattle.heap_gate.specs.Calls.{Runs}
-use Rattle.heap_gate.proofs.Tokens.{Acted, faced, marks, as_was, with_left}
+use Rattle.heap_gate.proofs.Tokens.{Acted, faced, marks, with_left}
 use Rattle.lfh_claims.specs.declared.tag.Tag.{Tag}
 use Rattle.lfh_claims.specs.Moves.{IsWith, IsBehindAct}
 use Rattle.lfh_claims.specs.Blocks.{HasPublished, HasTakenLive, HasFoundNone, HasSize, HasCleared}

@@ -1,19 +1,18 @@
 -- What giving, dropping and taking a block of the front end make of what is in hand.
-use Rattle.std.proofs.Common.{◌≡◌, ℕ, ◌==◌, Bool, true, false, ◌&&◌, List, [], ◌∷◌, ◌++◌, Option, Some, None, refl, sym, ap, ◌∙◌, subst, inl, inr, eq-eqb, append_assoc}
+use Rattle.std.proofs.Common.{◌≡◌, ℕ, Bool, true, false, List, [], ◌∷◌, ◌++◌, Option, Some, None, refl, sym, ap, ◌∙◌, subst, inl, inr, eq-eqb, append_assoc}
 use Rattle.std.specs.List.{find, AllByRecursion}
 use Rattle.std.proofs.lemmas.Bool.{cases_Bool, and_parts, and_right, false≢true, eqb-true}
-use Rattle.heap_model.specs.declared.Act.TheVariants as acts
 use Rattle.heap_model.specs.declared.Entry.{Entry}
 use Rattle.heap_model.specs.declared.Layer.{Layer}
 use Rattle.heap_model.specs.declared.What.TheVariants as whats
 use Rattle.heap_model.specs.declared.Layer.TheVariants as layers
-use Rattle.heap_model.specs.State.{State, Setting, Place, Status, Live, InHand, address, has_address, is_live, is_live_of, is_in_hand_of, is_hand_at, is_live_at, in_hand, hands, hand_at, place_at, places_of, exclusive_places, all_places, guarded, holds, change_found, remove_found, opening}
+use Rattle.heap_model.specs.State.{State, Setting, Place, Status, Live, InHand, address, has_address, is_live, is_live_of, is_in_hand_of, is_hand_at, is_live_at, in_hand, hands, hand_at, place_at, places_of, exclusive_places, all_places, guarded, holds, change_found, remove_found}
 use Rattle.heap_model.specs.CallState.{Configuration}
 use Rattle.heap_model.specs.Legal.{after, with_places, with_status, layer_of, on}
 use Rattle.heap_model.specs.History.{configuration_after, configuration_of, first_configuration}
 use Rattle.heap_model.specs.Agreement.{HasHomes}
 use Rattle.heap_model.proofs.Homes.{homes_act, hand_found}
-use Rattle.claim_rule.specs.Entries.{entry}
+use Rattle.serial_laws.proofs.Found.{find_front}
 use Rattle.step_parts.proofs.BlocksInHand.{found_lfh}
 use Rattle.step_parts.proofs.ChangedPlaces.{with_lfh, lfh_address}
 use Rattle.lfh_claims.specs.Moves.{IsWith}
@@ -133,13 +132,6 @@ module _ (st : State) (homes : HasHomes st) (n a : ℕ) (p : Place) (at : hand_a
       (with_others st n (remove_found (is_hand_at n a) st.lfh) st.lfh p a starts l (dropped_one n a st.lfh p in_lfh))
 
 ---- A live block is taken
-
-find_front : {A : Type 0} (t : A → Bool) (xs ys : List A) (p : A) → find t xs ≡ Some p → find t (xs ++ ys) ≡ Some p
-find_front t [] ys p e = no_found p e
-find_front t (x ∷ xs) ys p e = elim (cases_Bool (t x)) [
-  | inl g ↦ let k : Some x ≡ Some p = (rw g at e) in rw g k
-  | inr g ↦ rw g (find_front t xs ys p (rw g at e))
-]
 
 -- a place in hand is found before any other
 found_hand : (st : State) (n a : ℕ) (p : Place) → hand_at st n a ≡ Some p → place_at st n a ≡ Some p

@@ -1,27 +1,23 @@
 -- What a caller may do by what earlier calls told it.
-use Rattle.std.proofs.Common.{◌≡◌, ℕ, ◌*◌, ◌/◌, ◌%◌, ◌==◌, ◌<◌, ◌≤◌, Bool, true, false, not, ◌&&◌, ◌||◌, Option, Some, None, refl, sym, ap, ◌∙◌, subst, arith, inl, inr}
+use Rattle.std.proofs.Common.{◌≡◌, ℕ, ◌*◌, ◌==◌, ◌≤◌, Bool, true, not, ◌&&◌, ◌||◌, Option, Some, None, refl, sym, ap, ◌∙◌, subst, inl, inr}
 use Rattle.std.specs.Prelude.{is_some, unwrap_or, nat_le}
 use Rattle.std.proofs.lemmas.Bool.{cases_Bool, and_from, le-leb}
 use Rattle.heap_model.specs.declared.Layer.{Layer}
 use Rattle.heap_model.specs.declared.Layer.TheVariants as layers
-use Rattle.heap_model.specs.Buckets.{block_address, block_count, block_size}
-use Rattle.heap_model.specs.State.{Setting, Place, hand_at, is_entered, room}
+use Rattle.heap_model.specs.Buckets.{block_address}
+use Rattle.heap_model.specs.State.{Place, is_entered, room}
 use Rattle.heap_model.specs.Stay.{for_some}
-use Rattle.heap_model.specs.CallState.{Configuration, CallState, caller_view}
+use Rattle.heap_model.specs.CallState.{Configuration, caller_view}
 use Rattle.heap_model.specs.Legal.{may_touch, suits, suits_in}
-use Rattle.heap_model.specs.Search.{request_of}
-use Rattle.claim_rule.specs.Entries.{IsSettingOf, setting_of}
+use Rattle.claim_rule.specs.Entries.{setting_of}
 use Rattle.claim_rule.proofs.Advance.{some_setting}
-use Rattle.step_parts.specs.Seen.{IsSeen, IsTagged, bucket_of_tag, slot_of_tag, first_of_tag}
-use Rattle.step_parts.specs.InHand.{HasBlock, IsInHand, IsBlockNumber}
+use Rattle.step_parts.specs.Seen.{bucket_of_tag, slot_of_tag, first_of_tag}
+use Rattle.step_parts.specs.InHand.{IsInHand}
 use Rattle.step_parts.proofs.Tags.{seen_by_tag}
-use Rattle.block_steps.specs.Blocks.{MayAsk, MayClear, MayPublish}
 use Rattle.block_steps.proofs.BlockLaws.{ask_by_tag}
-use Rattle.heap_gate.specs.Token.{Token, now, Always, IsStanding}
+use Rattle.heap_gate.specs.Token.{now}
 use Rattle.lfh_claims.specs.declared.tag.Tag.{Tag}
-use Rattle.lfh_claims.specs.Blocks.{HasTag, MayGiveUp, tag_told}
-use Rattle.lfh_claims.specs.Search.{sought}
-use Rattle.lfh_claims.specs.Stays.{IsInside, HasRead}
+use Rattle.lfh_claims.specs.Blocks.{tag_told}
 use Rattle.lfh_claims.specs.Laws.{ReadByTag, AsksByTag, PublishesInHand, ClearsInHand, SoughtIs}
 
 -- a tag that was told is that of a word that is not 0
@@ -72,17 +68,21 @@ publishes_in_hand c b addr size inside has long few s q =
     }
 
 pub clears_in_hand : ClearsInHand
-clears_in_hand c tag addr inside read number has = (number.number, number.start, λ s q.
-    let k = has s q in
-    let m : Configuration = now s c in
-    let h : IsInHand m c.number (block_address tag.bucket tag.head number.number) = subst (IsInHand m c.number) number.start k.hand in
-    record {
-      inside = inside s q;
-      hand = h;
-      seen = read s q;
-      below = number.below;
-      ok = and_from (is_entered m.state.gate c.number) _ (inside s q) (ap (λ (o : Option Place). for_some o (λ y. may_touch (caller_view m c.number) y.layer)) h.hand ∙ ap (may_touch (caller_view m c.number)) h.layer);
-    })
+clears_in_hand c tag addr inside read number has = (
+  number.number,
+  number.start,
+  λ s q.
+      let k = has s q in
+      let m : Configuration = now s c in
+      let h : IsInHand m c.number (block_address tag.bucket tag.head number.number) = subst (IsInHand m c.number) number.start k.hand in
+      record {
+        inside = inside s q;
+        hand = h;
+        seen = read s q;
+        below = number.below;
+        ok = and_from (is_entered m.state.gate c.number) _ (inside s q) (ap (λ (o : Option Place). for_some o (λ y. may_touch (caller_view m c.number) y.layer)) h.hand ∙ ap (may_touch (caller_view m c.number)) h.layer);
+      },
+)
 
 pub sought_is : SoughtIs
 sought_is c b h = ap (λ (o : Option ℕ). unwrap_or o 0) (h (setting_of c.opening c.roll) (some_setting c.opening c.roll))

@@ -1,10 +1,9 @@
 -- A caller behind a reading that adds no entry.
-use Rattle.std.proofs.Common.{◌≡◌, ℕ, ◌+◌, ◌%◌, ◌<◌, ◌≤◌, arith, eq-eqb, ne_eqb, ◌==◌, Bool, true, false, not, List, [], Option, Some, refl, sym, ap, ◌∙◌, subst}
+use Rattle.std.proofs.Common.{◌≡◌, ℕ, ◌%◌, ◌<◌, ◌≤◌, arith, eq-eqb, ne_eqb, ◌==◌, Bool, true, false, not, [], Option, Some, refl, sym, ap, ◌∙◌, subst}
 use Rattle.std.specs.Option.{IsSome}
 use Rattle.atomic_table.specs.Table.{Me}
 use Rattle.atomic_table.specs.Seated.{TableId}
 use Rattle.rand_core.specs.Stream.{Stream}
-use Rattle.heap_model.specs.declared.Entry.{Entry}
 use Rattle.heap_model.specs.State.{Setting, is_caller}
 use Rattle.claim_rule.specs.declared.views.View.{View}
 use Rattle.claim_rule.specs.Entries.{IsSettingOf}

@@ -1,8 +1,8 @@
 -- What a caller has read since it entered stays, while it is inside.
-use Rattle.std.proofs.Common.{◌≡◌, ℕ, ◌==◌, Bool, true, false, ◌&&◌, ◌++◌, List, [], ◌∷◌, refl, sym, ap, ◌∙◌, subst, inl, inr, eqb, eq-eqb}
+use Rattle.std.proofs.Common.{◌/◌, ◌||◌, ◌≡◌, ℕ, ◌==◌, Bool, true, false, ◌&&◌, ◌++◌, List, [], ◌∷◌, refl, sym, ap, ◌∙◌, subst, inl, inr, eqb, eq-eqb}
+use Rattle.std.specs.Prelude.{is_some}
 use Rattle.std.specs.List.{list_any}
-use Rattle.std.proofs.lemmas.Bool.{cases_Bool, and_parts, and_from, both_ways, false≢true, eqb-true, eqb-false}
-use mathlib.Core.List.{IsPrefix}
+use Rattle.std.proofs.lemmas.Bool.{cases_Bool, and_parts, and_from, false≢true, eqb-true, eqb-false}
 use Rattle.heap_model.specs.declared.Act.{Act}
 use Rattle.heap_model.specs.declared.Act.TheVariants as acts
 use Rattle.heap_model.specs.declared.Entry.{Entry}
@@ -19,16 +19,13 @@ use Rattle.heap_model.specs.Agreement.{GateIsSound}
 use Rattle.heap_model.proofs.GateSound.{row_of, gate_sound_act, gate_sound_after, gate_sound_first}
 use Rattle.heap_model.proofs.Others.{act_other}
 use Rattle.heap_model.proofs.Undisturbed.{spans_stay}
-use Rattle.heap_soundness.specs.Sound.{IsOneOf}
 use Rattle.heap_soundness.proofs.Enums.{kind_is}
 use Rattle.heap_soundness.proofs.Lists.{any_in, any_found}
-use Rattle.claim_rule.specs.declared.views.Assignment.{Assignment}
 use Rattle.claim_rule.specs.Entries.{IsSettingOf}
-use Rattle.claim_rule.specs.Shown.{lfh_spans}
 use Rattle.claim_rule.proofs.Lists.{after-append, follow_parts, legal_parts, own-append, setting_less}
-use Rattle.step_parts.specs.Seen.{IsSeen}
 use Rattle.step_parts.proofs.BlockWords.{in_lfh, into_lfh}
-use Rattle.heap_gate.specs.Token.{Token, now, Always}
+use Rattle.block_steps.specs.Blocks.{MayAsk}
+use Rattle.heap_gate.specs.Token.{Token, now, Always, IsStanding}
 use Rattle.heap_gate.specs.Calls.{Does}
 use Rattle.lfh_claims.specs.Stays.{stays_in, all_stay, leaves_spans, all_leave_spans, IsInside, HasRead}
 
@@ -99,6 +96,23 @@ stay_parts : (xs ys : List Entry) → all_stay (xs ++ ys) ≡ true → all_stay 
 stay_parts [] ys h = refl
 stay_parts (x ∷ xs) ys h = let p = and_parts (stays_in x.act) (all_stay (xs ++ ys)) h in and_from (stays_in x.act) (all_stay xs) p.0 (stay_parts xs ys p.1)
 
+-- a subsegment of the bucket and the slot that begins there
+abbrev is_named : ℕ → ℕ → ℕ → Span → Bool
+is_named head b t x = is_kind x.kind kinds.Lfh && eqb x.first head && eqb x.bucket b && eqb x.slot t
+
+named_by : (head b t : ℕ) (x : Span) → x.kind ≡ kinds.Lfh → x.first ≡ head → x.bucket ≡ b → x.slot ≡ t → is_named head b t x ≡ true
+named_by head b t x k f u v = and_from _ (eqb x.slot t) (and_from _ (eqb x.bucket b) (and_from _ (eqb x.first head) (ap (λ (j : Kind). is_kind j kinds.Lfh) k) (eq-eqb x.first head f)) (eq-eqb x.bucket b u)) (eq-eqb x.slot t v)
+
+named_parts : (head b t : ℕ) (x : Span) → is_named head b t x ≡ true → (is_kind x.kind kinds.Lfh ≡ true) × (x.first ≡ head) × (x.bucket ≡ b) × (x.slot ≡ t)
+named_parts head b t x h =
+    let p = and_parts _ (eqb x.slot t) h in
+    let q = and_parts _ (eqb x.bucket b) p.0 in
+    let r = and_parts (is_kind x.kind kinds.Lfh) (eqb x.first head) q.0 in
+    (r.0, eqb-true x.first head r.1, eqb-true x.bucket b q.1, eqb-true x.slot t p.1)
+
+named_lfh : (head b t : ℕ) → OfLfh (is_named head b t)
+named_lfh head b t x h = (named_parts head b t x h).0
+
 module _ (old new : Token) (es : List Entry) (d : Does old new es) (stay : all_stay (old.prepared ++ es) ≡ true) (plain : all_leave_spans old.prepared ≡ true) where
   -- a setting of the callers that are known then is one of those that were
   pub known_before : (s : Setting) → IsSettingOf new.opening new.roll s → IsSettingOf old.opening old.roll s
@@ -123,23 +137,27 @@ module _ (old new : Token) (es : List Entry) (d : Does old new es) (stay : all_s
     read_stays head b t h s q =
         let z = h s (known_before s q) in
         let is = in_lfh (now s old).state.back.area.spans z.span z.there in
-        let e = any_in (is_it head b t) (now s old).state.back.area.spans z.span is.0 (passing head b t z.span is.1 z.begins z.bucket z.slot) in
-        let f = any_found (is_it head b t) (now s new).state.back.area.spans (passes s q (is_it head b t) (only head b t) e) in
-        let p = parts_of head b t f.0 f.2 in
+        let e = any_in (is_named head b t) (now s old).state.back.area.spans z.span is.0 (named_by head b t z.span is.1 z.begins z.bucket z.slot) in
+        let f = any_found (is_named head b t) (now s new).state.back.area.spans (passes s q (is_named head b t) (named_lfh head b t) e) in
+        let p = named_parts head b t f.0 f.2 in
         record { span = f.0; there = into_lfh (now s new).state.back.area.spans f.0 f.1 (kind_is f.0.kind kinds.Lfh p.0); begins = p.1; bucket = p.2; slot = p.3 }
-      where
-        is_it : ℕ → ℕ → ℕ → Span → Bool
-        is_it head b t x = is_kind x.kind kinds.Lfh && eqb x.first head && eqb x.bucket b && eqb x.slot t
 
-        passing : (head b t : ℕ) (x : Span) → x.kind ≡ kinds.Lfh → x.first ≡ head → x.bucket ≡ b → x.slot ≡ t → is_it head b t x ≡ true
-        passing head b t x k f u v = and_from _ (eqb x.slot t) (and_from _ (eqb x.bucket b) (and_from _ (eqb x.first head) (ap (λ (j : Kind). is_kind j kinds.Lfh) k) (eq-eqb x.first head f)) (eq-eqb x.bucket b u)) (eq-eqb x.slot t v)
-
-        parts_of : (head b t : ℕ) (x : Span) → is_it head b t x ≡ true → (is_kind x.kind kinds.Lfh ≡ true) × (x.first ≡ head) × (x.bucket ≡ b) × (x.slot ≡ t)
-        parts_of head b t x h =
-            let p = and_parts _ (eqb x.slot t) h in
-            let q = and_parts _ (eqb x.bucket b) p.0 in
-            let r = and_parts (is_kind x.kind kinds.Lfh) (eqb x.first head) q.0 in
-            (r.0, eqb-true x.first head r.1, eqb-true x.bucket b q.1, eqb-true x.slot t p.1)
-
-        only : (head b t : ℕ) → OfLfh (is_it head b t)
-        only head b t x h = (parts_of head b t x h).0
+    -- .. and where it may ask for a block it still may
+    pub ask_stays : (addr head b t : ℕ) → Always old (λ s. MayAsk (now s old) old.number head b t addr) → IsStanding new → new.inside ≡ true → Always new (λ s. MayAsk (now s new) new.number head b t addr)
+    ask_stays addr head b t h stands in_is s q =
+        let k = h s (known_before s q) in
+        let z = k.seen in
+        let is = in_lfh (now s old).state.back.area.spans z.span z.there in
+        let test : Span → Bool = λ x. is_named head b t x && in_span (addr / 4096) x in
+        let e = any_in test (now s old).state.back.area.spans z.span is.0 (and_from (is_named head b t z.span) (in_span (addr / 4096) z.span) (named_by head b t z.span is.1 z.begins z.bucket z.slot) k.has_page) in
+        let f = any_found test (now s new).state.back.area.spans (passes s q test (λ x y. (named_parts head b t x (and_parts (is_named head b t x) (in_span (addr / 4096) x) y).0).0) e) in
+        let both = and_parts (is_named head b t f.0) (in_span (addr / 4096) f.0) f.2 in
+        let p = named_parts head b t f.0 both.0 in
+        let a = stands s q in
+        record {
+          begun = ap is_some a.call ∙ a.begun (ap (λ (x : Bool). x || Rattle.std.proofs.Common.not (new.depth == 0)) in_is);
+          inside = a.entered ∙ in_is;
+          seen = record { span = f.0; there = into_lfh (now s new).state.back.area.spans f.0 f.1 (kind_is f.0.kind kinds.Lfh p.0); begins = p.1; bucket = p.2; slot = p.3 };
+          has_page = both.1;
+          aligned = k.aligned;
+        }

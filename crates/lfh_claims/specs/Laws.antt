@@ -1,7 +1,7 @@
 -- What a caller may do by what earlier calls told it, in words of the token.
-use Rattle.std.specs.Prelude.{◌≡◌, ℕ, ◌/◌, ◌%◌, ◌<◌, ◌≤◌, true, is_some, List, ◌++◌, Some}
+use Rattle.std.specs.Prelude.{◌≡◌, ℕ, ◌/◌, ◌%◌, ◌≤◌, true, List, ◌++◌, Some}
 use Rattle.heap_model.specs.declared.Entry.{Entry}
-use Rattle.heap_model.specs.Buckets.{block_address, block_count, block_size}
+use Rattle.heap_model.specs.Buckets.{block_size}
 use Rattle.heap_model.specs.Search.{request_of}
 use Rattle.step_parts.specs.InHand.{HasBlock, IsBlockNumber}
 use Rattle.block_steps.specs.Blocks.{MayAsk, MayPublish}
@@ -16,6 +16,12 @@ use Rattle.lfh_claims.specs.Stays.{all_stay, all_leave_spans, IsInside, HasRead}
 abbrev pub ReadStays : Type 0
 ReadStays =
     (old new : Token) (es : List Entry) (head b t : ℕ) → Does old new es → all_stay (old.prepared ++ es) ≡ true → all_leave_spans old.prepared ≡ true → IsInside old → HasRead old head b t → HasRead new head b t
+
+-- Where such a caller may ask for a block, it still may.
+abbrev pub AskStays : Type 0
+AskStays =
+    (old new : Token) (es : List Entry) (addr head b t : ℕ) → Does old new es → all_stay (old.prepared ++ es) ≡ true → all_leave_spans old.prepared ≡ true → IsInside old → Always old (λ s. MayAsk (now s old) old.number head b t addr)
+    → IsStanding new → new.inside ≡ true → Always new (λ s. MayAsk (now s new) new.number head b t addr)
 
 -- a subsegment counts as read behind the reading of a tag
 abbrev pub ReadByTag : Type 0

@@ -1,12 +1,11 @@
 -- Words that a search reads, and the block that it claims.
-use Rattle.std.specs.Prelude.{◌≡◌, ℕ, ◌+◌, ◌*◌, ◌/◌, Bool, true, false, List, [], ◌∷◌, unwrap_or}
+use Rattle.std.specs.Prelude.{◌≡◌, ℕ, ◌+◌, ◌*◌, ◌/◌, true, false, List, [], ◌∷◌, unwrap_or}
 use Rattle.heap_model.specs.declared.Act.TheVariants as acts
 use Rattle.heap_model.specs.declared.Entry.{Entry}
 use Rattle.heap_model.specs.declared.Layer.TheVariants as layers
 use Rattle.heap_model.specs.declared.Opening.{Opening}
 use Rattle.heap_model.specs.declared.What.TheVariants as whats
 use Rattle.heap_model.specs.Buckets.{block_address, block_size}
-use Rattle.heap_model.specs.State.{Setting}
 use Rattle.heap_model.specs.CallState.{Configuration}
 use Rattle.heap_model.specs.Search.{request_of}
 use Rattle.heap_model.specs.History.{configuration_after, configuration_of}

@@ -1,10 +1,15 @@
 //! What a caller may do next by what its calls told it, each law the contract of a function that does nothing.
 
-ghost use Rattle.lfh_claims.specs.Laws.{ReadStays, ReadByTag, AsksByTag, PublishesInHand, ClearsInHand, SoughtIs};
+ghost use Rattle.lfh_claims.specs.Laws.{ReadStays, AskStays, ReadByTag, AsksByTag, PublishesInHand, ClearsInHand, SoughtIs};
 
 /// What a caller has read since it entered counts as read until it leaves.
 pub fn read_stays()
     ensures { ReadStays }
+{}
+
+/// Where a caller may ask for a block, it may until it leaves.
+pub fn ask_stays()
+    ensures { AskStays }
 {}
 
 /// A tag that was read names a subsegment that counts as read.

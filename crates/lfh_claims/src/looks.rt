@@ -120,8 +120,13 @@ pub fn owner_size<T: Stands>(heap: &Heap<T>, c: &mut Caller<T>, addr: u64) -> u6
     ensures word { Always c.new (λ s. result ≡ size_word (now s c.old).state.lfh (addr / 16)) }
 {
     let at = size_at(&heap.limits(), (addr / GRANULE_BYTES) as u32) as usize;
-    let word =
-        look_size_by::<T, Brand, Brand>(&heap.table.shared, &mut c.place, &c.prepared, addr, at);
+    let word = look_size_by::<T, Brand, Brand>(
+        &heap.table.shared,
+        &mut c.place,
+        &c.prepared,
+        addr,
+        at,
+    );
     c.prepared.clear();
     c.pending = false;
     word

@@ -1,14 +1,14 @@
-use Rattle.std.proofs.Common.{◌≡◌, ◌/◌, ◌%◌, ◌+◌, ◌*◌, ◌<◌, Some, arith, ◌∙◌, ℕ, true, false, [], ◌∷◌, List, refl, sym, subst, ap}
+use Rattle.std.proofs.Common.{◌≡◌, arith, ◌∙◌, ℕ, [], ◌∷◌, sym, subst, ap}
 use Rattle.random_pick.specs.CallerDraws.{words_of}
 use Rattle.heap_model.specs.declared.Act.TheVariants as acts
 use Rattle.heap_model.specs.State.{Setting}
 use Rattle.claim_rule.specs.Entries.{IsSettingOf, entry, setting_of}
-use Rattle.claim_rule.specs.Plays.{Goes, number_of}
+use Rattle.claim_rule.specs.Plays.{Goes}
 use Rattle.heap_gate.specs.Token.{Token, Always, now}
 use Rattle.heap_gate.specs.Seated.{Face, tok}
 use Rattle.heap_gate.proofs.Tokens.{goes_by}
 use Rattle.heap_model.specs.declared.Opening.{Opening}
-use Rattle.heap_model.specs.Buckets.{block_address, block_count}
+use Rattle.heap_model.specs.Buckets.{block_address}
 use Rattle.heap_model.specs.Limits.{AreValid}
 use Rattle.lfh_buckets.proofs.BlockLemmas.{few_blocks}
 use Rattle.claim_rule.specs.Rule.{ready_after}

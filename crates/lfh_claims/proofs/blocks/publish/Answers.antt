@@ -1,9 +1,8 @@
-use Rattle.std.proofs.Common.{◌≡◌, ◌∙◌, ℕ, true, false, [], ◌∷◌, List, refl, sym, subst, ap}
+use Rattle.std.proofs.Common.{◌∙◌, [], ◌∷◌, sym, subst, ap}
 use Rattle.random_pick.specs.CallerDraws.{words_of}
 use Rattle.heap_model.specs.declared.Act.TheVariants as acts
 use Rattle.heap_model.specs.State.{Setting}
 use Rattle.claim_rule.specs.Entries.{IsSettingOf, entry}
-use Rattle.claim_rule.specs.Plays.{number_of}
 use Rattle.heap_gate.specs.Token.{Token, Always, now}
 use Rattle.heap_gate.specs.Seated.{Face, tok}
 use Rattle.heap_gate.proofs.Tokens.{goes_by}

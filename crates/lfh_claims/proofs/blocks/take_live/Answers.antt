@@ -1,14 +1,12 @@
-use Rattle.std.proofs.Common.{◌≡◌, ◌-◌, ◌∙◌, ℕ, true, false, [], ◌∷◌, List, refl, sym, subst, ap}
+use Rattle.std.proofs.Common.{◌-◌, ◌∙◌, [], ◌∷◌, sym, subst, ap}
 use Rattle.random_pick.specs.CallerDraws.{words_of}
 use Rattle.heap_model.specs.declared.Act.TheVariants as acts
-use Rattle.heap_model.specs.State.{Setting}
-use Rattle.claim_rule.specs.Entries.{IsSettingOf, entry}
-use Rattle.claim_rule.specs.Plays.{number_of}
+use Rattle.claim_rule.specs.Entries.{entry}
 use Rattle.heap_gate.specs.Token.{Token, Always, now}
 use Rattle.heap_gate.specs.Seated.{Face, tok}
 use Rattle.heap_gate.proofs.Tokens.{goes_by, as_was, faced}
 use Rattle.block_steps.specs.Blocks.{MayAsk}
-use Rattle.lfh_claims.specs.Blocks.{HasTakenLive, HasFoundNone, HasSize}
+use Rattle.lfh_claims.specs.Blocks.{HasTakenLive, HasFoundNone}
 use Rattle.lfh_claims.proofs.Acting.{may_in}
 use Rattle.lfh_claims.proofs.Exchanges.{denying, has_found_none, taking_block, taken_face, has_taken_live}
 use Rattle.lfh_claims.proofs.blocks.take_live.Goals as goal

@@ -1,19 +1,14 @@
-use Rattle.std.proofs.Common.{◌≡◌, eq-eqb, ne_eqb, Some, None, Option, arith, ◌∙◌, ℕ, true, false, [], ◌∷◌, List, refl, sym, subst, ap}
+use Rattle.std.proofs.Common.{◌≡◌, eq-eqb, ne_eqb, Some, None, arith, ◌∙◌, [], refl, subst, ap}
 use Rattle.random_pick.specs.CallerDraws.{words_of}
-use Rattle.heap_model.specs.declared.Act.TheVariants as acts
-use Rattle.heap_model.specs.State.{Setting}
-use Rattle.claim_rule.specs.Entries.{IsSettingOf, setting_of}
-use Rattle.claim_rule.specs.Plays.{number_of}
-use Rattle.heap_gate.specs.Token.{Token, Always, now}
+use Rattle.claim_rule.specs.Entries.{setting_of}
+use Rattle.heap_gate.specs.Token.{Token}
 use Rattle.heap_gate.specs.Seated.{Face, tok}
 use Rattle.heap_gate.proofs.Tokens.{goes_by, as_was, faced, with_left}
-use Rattle.heap_gate.specs.Calls.{Runs, Stands, stance}
 use Rattle.heap_model.specs.History.{configuration_of}
 use Rattle.claim_rule.proofs.Advance.{some_setting}
 use Rattle.step_parts.specs.Seen.{bucket_of_tag, slot_of_tag, first_of_tag}
 use Rattle.look_steps.specs.Looks.{IsTagWord}
 use Rattle.heap_gate.proofs.Acting.{looking, looked_runs}
-use Rattle.lfh_claims.specs.declared.tag.Tag.{Tag}
 use Rattle.lfh_claims.specs.Blocks.{HasTag, tag_told}
 use Rattle.lfh_claims.proofs.Acting.{told_in}
 use Rattle.lfh_claims.proofs.Looking.{parts_told}
