@@ -35,8 +35,8 @@ use lfh_buckets::{block_at, pages};
 use random_pick::Draw;
 use search::{lowest, own_block};
 use std::marker::Brand;
-use steps::{Subsegment, hint_by, put_hint_by};
-use stores::{clear_tags, give_up, look_hint, look_tag, make, named, tag_pages};
+use steps::{Subsegment, hint_by};
+use stores::{clear_tags, give_up, look_hint, look_tag, make, named, put_hint, tag_pages};
 use table_words::hint_at;
 
 /// The hint of a bucket and of the caller's slot, with which a search of the caller begins. `None` exactly where the word that
@@ -50,6 +50,7 @@ pub fn hint_of<T: Stands>(heap: &Heap<T>, c: &mut Caller<T>, bucket: u8) -> Opti
     ensures found { IfSome result (FindsHint c.old c.new bucket) }
     ensures none { IfNone result (FindsNoHint c.old c.new bucket) }
 {
+    let _bounds = heap.limits();
     let slot = c.slot();
     let at = hint_at(bucket, slot as u8) as usize;
     let word = hint_by::<T, Brand, Brand>(
@@ -74,6 +75,8 @@ pub fn hint_under_back<T: Stands>(heap: &Heap<T>, c: &mut Caller<T>, bucket: u8)
     requires back { is_out whats.Back c.old.out ≡ true }
     ensures reads { ReadsHint c.old c.new bucket result }
 {
+    let _bounds = heap.limits();
+    c.check();
     let slot = c.slot();
     named(look_hint(heap, c, bucket, slot))
 }
@@ -91,19 +94,7 @@ pub fn set_hint<T: Stands>(heap: &Heap<T>, c: &mut Caller<T>, bucket: u8, head: 
     ensures stands { Standing c.new (record (stance c.old) { owes = paid_off (hint_at bucket (own_slot c.old)) c.old.owes }) }
 {
     let slot = c.slot();
-    let at = hint_at(bucket, slot as u8) as usize;
-    let value = u64::from(head);
-    put_hint_by::<T, Brand, Brand>(
-        &heap.table.shared,
-        &mut c.place,
-        &c.prepared,
-        bucket,
-        slot,
-        at,
-        value,
-    );
-    c.prepared.clear();
-    c.pending = false;
+    put_hint(heap, c, bucket, slot, head);
 }
 
 /// Makes a subsegment for the caller's bucket and slot, under the back end's lock, claims the block that the draw picks in it,
@@ -161,12 +152,15 @@ pub fn install_again<T: Stands>(
     ensures same { IfNone result (c.new ≡ c.old) }
     ensures back { IsBackOf c.new back.new }
 {
+    c.check();
+    let _bounds = heap.limits();
     let reserved = back.region().reserved();
     let slot = c.slot();
     let pages = pages(bucket);
     let head = back.take(pages, Mark::lfh(bucket, slot as u8))?;
     let _sound = back.region();
     let hint = look_hint(heap, c, bucket, slot);
+    c.check();
     let index = own_block(bucket, draw);
     let at = Subsegment {
         head,
@@ -176,7 +170,7 @@ pub fn install_again<T: Stands>(
     };
     make(heap, c, at, index, hint, reserved);
     tag_pages(heap, c, at);
-    set_hint(heap, c, bucket, head);
+    put_hint(heap, c, bucket, slot, head);
     Some(block_at(bucket, head, index))
 }
 

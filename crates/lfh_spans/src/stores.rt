@@ -10,6 +10,7 @@ ghost use Rattle.span_steps.specs.Installs.{MayInstall, owed_by_install, owed_ta
 ghost use Rattle.span_steps.specs.Retires.{MayRetire, owed_by_retire};
 ghost use Rattle.span_steps.specs.Stores.{owed_zero, paid_off};
 ghost use Rattle.step_parts.specs.InHand.{HasBlock};
+ghost use Rattle.claim_rule.specs.Shown.{hint_word};
 ghost use Rattle.lfh_buckets.specs.Blocks.{IsBucket};
 ghost use Rattle.heap_model.specs.Buckets.{block_address, block_count};
 ghost use Rattle.heap_gate.specs.Token.{Always, now, is_out};
@@ -17,7 +18,7 @@ ghost use Rattle.heap_gate.specs.Calls.{Runs, Stands as Standing, stance};
 ghost use Rattle.lfh_spans.specs.Stores.{AreTagged, HasMade, paid_tags, reserving_in};
 
 use crate::steps::{
-    Subsegment, clear_tag_by, install_by, look_hint_by, look_tag_by, put_tag_by, retire_by,
+    Subsegment, clear_tag_by, install_by, look_hint_by, look_tag_by, put_hint_by, put_tag_by, retire_by,
 };
 use heap_gate::{Caller, Heap};
 use heap_model::Stands;
@@ -42,6 +43,7 @@ pub fn look_hint<T: Stands>(heap: &Heap<T>, c: &mut Caller<T>, bucket: u8, slot:
     ensures stands { Standing c.new (stance c.old) }
     ensures word { Always c.new (λ s. IsHintWord (now s c.new) c.old.number bucket slot c.old.owes result) }
     ensures small { result < 256 * c.new.opening.limits.segments }
+    ensures known { c.old.number < length c.old.roll }
 {
     let limits = heap.limits();
     let at = hint_at(bucket, slot as u8) as usize;
@@ -56,6 +58,32 @@ pub fn look_hint<T: Stands>(heap: &Heap<T>, c: &mut Caller<T>, bucket: u8, slot:
     c.prepared.clear();
     c.pending = false;
     word
+}
+
+/// Stores the hint of a bucket and a slot.
+pub fn put_hint<T: Stands>(heap: &Heap<T>, c: &mut Caller<T>, bucket: u8, slot: u32, head: u32)
+    requires table { (c.old.table ≡ heap.now.table) × (c.old.opening ≡ heap.now.opening) }
+    requires whole { c.old.whole ≡ true }
+    requires bucket { IsBucket bucket }
+    requires slot { slot < 16 }
+    requires held { is_out whats.Back c.old.out ≡ true }
+    requires head { Always c.old (λ s. hint_word (now s c.old).state.back.area (now s c.old).now.span_history bucket slot ≡ head) }
+    ensures runs { Runs c.old c.new [] }
+    ensures stands { Standing c.new (record (stance c.old) { owes = paid_off (hint_at bucket slot) c.old.owes }) }
+{
+    let at = hint_at(bucket, slot as u8) as usize;
+    let value = u64::from(head);
+    put_hint_by::<T, Brand, Brand>(
+        &heap.table.shared,
+        &mut c.place,
+        &c.prepared,
+        bucket,
+        slot,
+        at,
+        value,
+    );
+    c.prepared.clear();
+    c.pending = false;
 }
 
 /// Loads the tag of a page.

@@ -1,4 +1,4 @@
-use Rattle.std.proofs.Common.{◌≡◌, ℕ, ◌∙◌, true, List, [], ◌∷◌, sym, subst, ap, arith}
+use Rattle.std.proofs.Common.{◌≡◌, ℕ, ◌<◌, length, ◌∙◌, true, List, [], ◌∷◌, sym, subst, ap, arith}
 use Rattle.random_pick.specs.CallerDraws.{words_of}
 use Rattle.claim_rule.specs.declared.views.Owed.{Owed}
 use Rattle.claim_rule.specs.Places.{tag_at, hint_at}
@@ -66,3 +66,8 @@ returns-clause-small g c =
     let s = setting_of p.me.0.opening p.me.0.roll in let q = some_setting p.me.0.opening p.me.0.roll in
     let valid = subst AreValid (c.limits-limits.ensures.limits ∙ ap (λ (o : Opening). o.limits) (sym c.requires.table.1 ∙ (sym (ap (λ (t : Token). t.opening) v) ∙ sym told.goes.opening))) c.limits-limits.ensures.valid in
     hint_small s p.me.0.seen (number_of me.0.role) c.args.bucket c.args.slot me.0.owes c.look_hint_by-word.result (let y = valid.some_segments in omega arith) (told.goes.legal s q) (told.tells s q)
+
+pub returns-clause-known : goal.returns-clause-known
+returns-clause-known g c =
+    let i = c.c.inside in let f : Face = record { number = i.number; prepared = i.prepared.items; pending = i.pending; call = i.call; fresh = i.fresh; locked = i.locked; inside = i.inside; depth = i.depth; whole = i.whole; free = i.free; drawn = i.drawn } in let h = c.c.invariant in let z = i.place.table_id in let me = i.place.me in let stream = words_of i.draws in let v = c.c.view_is in
+    subst (λ (t : Token). t.number < length t.roll) v h.known
