@@ -1,17 +1,20 @@
 -- What the steps of making a subsegment come to, one behind another: the hint is looked at, the first block is claimed, and the tags and the hint are stored.
-use Rattle.std.proofs.Common.{◌≡◌, ℕ, zero, suc, ◌+◌, ◌*◌, ◌/◌, ◌<◌, ◌==◌, Bool, true, false, not, ◌&&◌, ◌||◌, List, [], ◌∷◌, ◌++◌, length, Option, Some, None, refl, sym, ap, ◌∙◌, subst, arith, inl, inr, eq-eqb, ne_eqb}
-use Rattle.std.specs.Prelude.{is_some, filter, unwrap_or, cond}
+use Rattle.std.proofs.Common.{◌≡◌, ℕ, zero, suc, ◌+◌, ◌*◌, ◌/◌, ◌<◌, ◌≤◌, ◌==◌, Bool, true, false, not, ◌&&◌, ◌||◌, List, [], ◌∷◌, ◌++◌, length, Option, Some, None, refl, sym, ap, ◌∙◌, subst, arith, inl, inr, eq-eqb, ne_eqb}
+use Rattle.std.specs.Prelude.{is_some, unwrap_or, cond, nat_le}
+use Rattle.std.proofs.lemmas.Bool.{cases_Bool}
 use Rattle.std.specs.List.{find}
 use Rattle.std.proofs.lemmas.List.{append-nil}
 use Rattle.heap_model.specs.declared.Act.TheVariants as acts
 use Rattle.heap_model.specs.declared.Entry.{Entry}
 use Rattle.heap_model.specs.declared.Layer.{Layer}
 use Rattle.heap_model.specs.declared.Layer.TheVariants as layers
+use Rattle.heap_model.specs.declared.Limits.{Limits}
+use Rattle.heap_model.specs.declared.Mark.{Mark}
 use Rattle.heap_model.specs.declared.Opening.{Opening}
 use Rattle.heap_model.specs.declared.What.TheVariants as whats
 use Rattle.heap_model.specs.Buckets.{bucket_pages, block_size, block_address, block_count}
 use Rattle.heap_model.specs.Marks.{lfh_mark}
-use Rattle.heap_model.specs.State.{Setting, Area, BackPart, GateAndLocks, Place, holds, is_entered, in_hand, is_in_hand_of, places_of, hand_at, updated}
+use Rattle.heap_model.specs.State.{Setting, Area, BackPart, GateAndLocks, Place, holds, is_entered, in_hand, places_of, InHand}
 use Rattle.heap_model.specs.Backend.{back_place}
 use Rattle.heap_model.specs.CallState.{Configuration, CallState, CallerView, SpanHistory, caller_view}
 use Rattle.heap_model.specs.Search.{is_spent, search_key_of, draw_of, hint_or, first_of, spans_of}
@@ -22,19 +25,21 @@ use Rattle.heap_model.specs.Agreement.{AgreesFor}
 use Rattle.heap_model.proofs.Agreement.{agrees_prepared}
 use Rattle.heap_model.proofs.Others.{agrees_trans}
 use Rattle.heap_model.proofs.Stable.{caller_view_same, same_search, same_hand_at}
-use Rattle.heap_soundness.specs.Sound.{AreInOrder}
+use Rattle.heap_soundness.specs.Sound.{IsOneOf, AreInOrder}
 use Rattle.claim_rule.specs.declared.views.Owed.{Owed}
-use Rattle.claim_rule.specs.Entries.{IsSettingOf, entry, slot_at}
+use Rattle.claim_rule.specs.Entries.{IsSettingOf, entry, setting_of}
 use Rattle.claim_rule.specs.Places.{tag_at, hint_at}
-use Rattle.claim_rule.specs.Shown.{hint_word, owed_or}
+use Rattle.claim_rule.specs.Shown.{hint_word, owed_or, tag_word, lfh_spans}
+use Rattle.claim_rule.proofs.Advance.{some_setting}
 use Rattle.claim_rule.proofs.Lists.{after-append}
 use Rattle.span_steps.specs.Installs.{making, MayInstall, owed_tags, owed_by_install}
 use Rattle.span_steps.specs.Stores.{paid_off}
 use Rattle.look_steps.specs.Looks.{IsHintWord}
+use Rattle.span_steps.proofs.NewSubsegment.{in_inserted}
 use Rattle.step_parts.specs.InHand.{HasBlock}
 use Rattle.backend_fit.specs.Kept.{Kept, Becomes, area_of, layer_of}
 use Rattle.backend_fit.specs.Sound.{IsSound}
-use Rattle.backend_fit.specs.Effects.{part_with, marked_run, with_segment}
+use Rattle.backend_fit.specs.Effects.{part_with, marked_run, marked_span, with_segment}
 use Rattle.data_words.proofs.Copying.{does_then}
 use Rattle.heap_gate.specs.Token.{Token, Always, IsStanding, now, is_out}
 use Rattle.heap_gate.specs.Calls.{Does, Runs, Stands, stance}
@@ -43,8 +48,8 @@ use Rattle.lfh_spans.specs.Stores.{AreTagged, HasMade, made_with, paid_tags, res
 use Rattle.lfh_spans.specs.Subsegments.{IsBackOf, MayMake, HasInstalled, drawn_block, installing, reserving}
 use Rattle.lfh_spans.proofs.Likeness.{old_agrees}
 use Rattle.lfh_spans.proofs.Installing.{may_install, new_span}
-use Rattle.lfh_spans.proofs.Joined.{HasBack, has_back_by, setting_of_old, still_held, back_of_still}
-use Rattle.lfh_spans.proofs.Tagged.{IsBehind, is_behind, spans_in_order, tags_behind, hint_behind}
+use Rattle.lfh_spans.proofs.Joined.{HasBack, has_back_by, setting_of_old, still_held, hint_still, back_of_still}
+use Rattle.lfh_spans.proofs.Tagged.{IsBehind, is_behind, spans_in_order, span_within, tags_behind, hint_behind}
 
 ---- What is owed is paid
 
@@ -78,7 +83,7 @@ module _ (s : Setting) (n : ℕ) (m k : Configuration) (r : AgreesFor n m k) (st
   placing = entry n (acts.Place start granules layers.Lfh)
 
   abbrev block : Place
-  block = record { start = start; granules = granules; layer = layers.Lfh; status = Rattle.heap_model.specs.State.InHand n }
+  block = record { start = start; granules = granules; layer = layers.Lfh; status = InHand n }
 
   place_agrees : AgreesFor n (after s m (entry n (acts.Place start granules layers.Lfh))) (after s k (entry n (acts.Place start granules layers.Lfh)))
   place_agrees = record {
@@ -176,7 +181,7 @@ module _ (c0 c1 : Token) (k0 k1 : Kept) (b t draw first hint : ℕ) (high : b �
     agrees2 : (s : Setting) → IsSettingOf c2.opening c2.roll s → AgreesFor c0.number (now s c2) (configuration_after s (now s c1) ds)
     agrees2 s q = subst (λ (x : ℕ). AgreesFor x (now s c2) (configuration_after s (now s c1) (made_with x (reserving_in c0.number (area_of k0).reserved first) first (bucket_pages b) b t (drawn_block b draw)))) look.does.number (made.agrees s q)
 
-    behind2 : (s : Setting) → IsSettingOf c1.opening c1.roll s → IsBehind s (now s c1) c0.number first b t (drawn_block b draw) (held1 s q) (configuration_after s (now s c1) ds)
+    behind2 : (s : Setting) (q : IsSettingOf c1.opening c1.roll s) → IsBehind s (now s c1) c0.number first b t (drawn_block b draw) (held1 s q) (configuration_after s (now s c1) ds)
     behind2 s q = subst (λ (x : ℕ). IsBehind s (now s c1) n first b t (drawn_block b draw) (held1 s q) (configuration_after s (now s c1) (made_with n (reserving_in n x first) first (bucket_pages b) b t (drawn_block b draw))))
         (ap (λ (p : BackPart). p.area.reserved) (sym (back1 s q).part)) (is_behind s (now s c1) n first b t (drawn_block b draw) (held1 s q))
 
@@ -201,7 +206,7 @@ module _ (c0 c1 : Token) (k0 k1 : Kept) (b t draw first hint : ℕ) (high : b �
     -- the tags that are to be stored
     pub tags2 : (pages : ℕ) → pages ≡ bucket_pages b → Always c2 (λ s. AreTagged (now s c2) first pages (1 + 256 * b + 65536 * t + 4294967296 * first))
     tags2 pages e s q = subst (λ (p : ℕ). AreTagged (now s c2) first p (1 + 256 * b + 65536 * t + 4294967296 * first)) (sym e)
-        (λ page low high. ap (λ (p : BackPart). Rattle.claim_rule.specs.Shown.tag_word (Rattle.claim_rule.specs.Shown.lfh_spans p.area) page) (back2 s q) ∙ tags_behind (now s c1).state.back.area first b t (order2 s q) page low high)
+        (λ page low high. ap (λ (p : BackPart). tag_word (lfh_spans p.area) page) (back2 s q) ∙ tags_behind (now s c1).state.back.area first b t (order2 s q) page low high)
 
     -- .. and the hint
     pub hint2 : Always c2 (λ s. hint_word (now s c2).state.back.area (now s c2).now.span_history b t ≡ first)
@@ -282,3 +287,86 @@ module _ (c0 c1 : Token) (k0 k1 : Kept) (b t draw first hint : ℕ) (high : b �
               prepared = stored.prepared;
             };
           }
+
+---- What is known when the hint was looked at, in the words of the code
+
+pub record Looked (c0 c1 : Token) (k0 k1 : Kept) (b t draw first hint pages reserved i : ℕ) (mark : Mark) : Type 0 where
+  pub high : b ≤ 128
+  pub few : t < 16
+  pub slot_is : t ≡ own_slot c0
+  pub known : c0.number < length c0.roll
+  pub below : i < block_count b
+  pub drawn : i ≡ drawn_block b draw
+  pub pages_are : pages ≡ bucket_pages b
+  pub reserved_is : reserved ≡ (area_of k0).reserved
+  pub mark_is : mark ≡ lfh_mark b t
+  pub at0 : IsStanding c0
+  pub whole : c0.whole ≡ true
+  pub inside : c0.inside ≡ true
+  pub out : is_out whats.Back c0.out ≡ true
+  pub paid : c0.owes ≡ []
+  pub back0 : IsBackOf c0 k0
+  pub may0 : Always c0 (λ s. MayMake s (now s c0) c0.number b draw)
+  pub sound0 : IsSound k0
+  pub sound1 : IsSound k1
+  pub limits_are : k1.limits ≡ k0.limits
+  pub area : area_of k1 ≡ with_span (with_segment (area_of k0) first) (marked_span first pages mark)
+  pub place : Some first ≡ back_place (area_of k0) k0.limits.segments pages
+  pub becomes : Becomes k0 k1 (λ p. part_with p (marked_run first pages mark))
+  pub look : Runs c0 c1 []
+  pub looks : Stands c1 (stance c0)
+  pub at1 : IsStanding c1
+  pub word : Always c1 (λ s. IsHintWord (now s c1) c0.number b t c0.owes hint)
+
+module _ (c0 c1 : Token) (k0 k1 : Kept) (b t draw first hint pages reserved i : ℕ) (mark : Mark) (r : Looked c0 c1 k0 k1 b t draw first hint pages reserved i mark) where
+  place_is : back_place (area_of k0) k0.limits.segments (bucket_pages b) ≡ Some first
+  place_is = ap (back_place (area_of k0) k0.limits.segments) (sym r.pages_are) ∙ sym r.place
+
+  becomes_is : Becomes k0 k1 (λ p. part_with p (marked_run first (bucket_pages b) (lfh_mark b t)))
+  becomes_is = subst (λ (z : ℕ × Mark). Becomes k0 k1 (λ p. part_with p (marked_run first z.0 z.1))) (λ j. (r.pages_are j, r.mark_is j)) r.becomes
+
+  below_is : drawn_block b draw < block_count b
+  below_is = subst (λ (x : ℕ). x < block_count b) r.drawn r.below
+
+  pub installs_by : Always c1 (λ s. MayInstall s (now s c1) c1.number (reserving_in c1.number reserved first) first pages b t i hint c1.owes)
+  installs_by = installs1 c0 c1 k0 k1 b t draw first hint r.high r.few r.slot_is r.known below_is r.at0 r.whole r.inside r.out r.paid r.back0 r.may0 r.sound0 r.sound1 place_is becomes_is r.look r.looks r.at1 r.word pages reserved i r.pages_are r.reserved_is r.drawn
+
+  -- it lies in the segments
+  pub within_by : first + pages ≤ 256 * c0.opening.limits.segments
+  within_by =
+      let s = setting_of c0.opening c0.roll in
+      let l = (r.back0 s (some_setting c0.opening c0.roll)).limits in
+      let there : IsOneOf (marked_span first pages mark) (area_of k1).spans = subst (λ (a : Area). IsOneOf (marked_span first pages mark) a.spans) (sym r.area) (in_inserted (marked_span first pages mark) (area_of k0).spans) in
+      subst (λ (x : Limits). first + pages ≤ 256 * x.segments) (r.limits_are ∙ l) (span_within k1 (marked_span first pages mark) r.sound1 there)
+
+  module _ (c2 : Token) (made : HasMade c1 c2 (reserving_in c1.number reserved first) first pages b t i hint) where
+    made_is : HasMade c1 c2 (reserving_in c0.number (area_of k0).reserved first) first (bucket_pages b) b t (drawn_block b draw) hint
+    made_is = subst (λ (z : (ℕ × ℕ) × (ℕ × ℕ)). HasMade c1 c2 (reserving_in z.0.0 z.0.1 first) first z.1.0 b t z.1.1 hint) (λ j. ((r.look.does.number j, r.reserved_is j), (r.pages_are j, r.drawn j))) made
+
+    pub tags_by : Always c2 (λ s. AreTagged (now s c2) first pages (1 + 256 * b + 65536 * t + 4294967296 * first))
+    tags_by = tags2 c0 c1 k0 k1 b t draw first hint r.high r.few r.slot_is r.known below_is r.at0 r.whole r.inside r.out r.paid r.back0 r.may0 r.sound0 r.sound1 place_is becomes_is r.look r.looks r.at1 r.word c2 made_is pages r.pages_are
+
+    pub hint_by : (c3 : Token) → Runs c2 c3 [] → Always c3 (λ s. hint_word (now s c3).state.back.area (now s c3).now.span_history b t ≡ first)
+    hint_by c3 x = hint_still c2 c3 x
+        (held2 c0 c1 k0 k1 b t draw first hint r.high r.few r.slot_is r.known below_is r.at0 r.whole r.inside r.out r.paid r.back0 r.may0 r.sound0 r.sound1 place_is becomes_is r.look r.looks r.at1 r.word c2 made_is) b t first
+        (hint2 c0 c1 k0 k1 b t draw first hint r.high r.few r.slot_is r.known below_is r.at0 r.whole r.inside r.out r.paid r.back0 r.may0 r.sound0 r.sound1 place_is becomes_is r.look r.looks r.at1 r.word c2 made_is)
+
+    module _ (c3 c4 : Token) (tags : Runs c2 c3 []) (tagged : Stands c3 (record (stance c2) { owes = paid_tags first pages c2.owes })) (store : Runs c3 c4 []) (stored : Stands c4 (record (stance c3) { owes = paid_off (hint_at b t) c3.owes })) where
+      tagged_is : Stands c3 (record (stance c2) { owes = paid_tags first (bucket_pages b) c2.owes })
+      tagged_is = subst (λ (p : ℕ). Stands c3 (record (stance c2) { owes = paid_tags first p c2.owes })) r.pages_are tagged
+
+      pub back_by : IsBackOf c4 k1
+      back_by = back4 c0 c1 k0 k1 b t draw first hint r.high r.few r.slot_is r.known below_is r.at0 r.whole r.inside r.out r.paid r.back0 r.may0 r.sound0 r.sound1 place_is becomes_is r.look r.looks r.at1 r.word c2 made_is c3 c4 tags tagged_is store stored
+
+      pub installed_by : (addr : ℕ) → addr ≡ block_address b first i → HasInstalled c0 c4 k0 b draw addr
+      installed_by addr e = has_installed c0 c1 k0 k1 b t draw first hint r.high r.few r.slot_is r.known below_is r.at0 r.whole r.inside r.out r.paid r.back0 r.may0 r.sound0 r.sound1 place_is becomes_is r.look r.looks r.at1 r.word c2 made_is c3 c4 tags tagged_is store stored addr (e ∙ ap (block_address b first) r.drawn)
+
+-- a subsegment has a page
+pub pages_some : (b : ℕ) → 0 < bucket_pages b
+pages_some b = elim (cases_Bool (nat_le (block_size b) 256)) [
+  | inl e ↦ rw e (omega arith)
+  | inr e ↦ elim (cases_Bool (nat_le (block_size b) 1024)) [
+    | inl f ↦ rw (e, f) (omega arith)
+    | inr f ↦ elim (cases_Bool (nat_le (block_size b) 4096)) [ inl d ↦ rw (e, f, d) (omega arith) | inr d ↦ rw (e, f, d) (omega arith) ]
+  ]
+]

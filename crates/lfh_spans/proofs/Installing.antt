@@ -1,6 +1,6 @@
 -- Where the search of a caller is spent and it holds Back, a subsegment may be made where the back end has room, and its drawn block claimed.
 use Rattle.std.proofs.Common.{◌≡◌, ◌⊎◌, ℕ, ◌+◌, ◌*◌, ◌/◌, ◌<◌, ◌==◌, Bool, true, false, ◌&&◌, ◌||◌, not, List, [], ◌∷◌, ◌++◌, Option, Some, None, refl, sym, ap, ◌∙◌, subst, arith, inl, inr, ⊎_elim, eqb, eq-eqb}
-use Rattle.std.specs.Prelude.{nat_lt, is_some, is_none, filter, if◌then◌else◌}
+use Rattle.std.specs.Prelude.{nat_lt, is_some, option_and_then}
 use Rattle.std.proofs.lemmas.Bool.{cases_Bool, and_parts, and_from, or_right, lt-ltb, ltb-true, ltb-false, le-ltb, false≢true}
 use Rattle.heap_model.specs.declared.Act.{Act}
 use Rattle.heap_model.specs.declared.Act.TheVariants as acts
@@ -10,13 +10,13 @@ use Rattle.heap_model.specs.declared.Kind.TheVariants as kinds
 use Rattle.heap_model.specs.declared.Limits.{Limits}
 use Rattle.heap_model.specs.declared.Opening.{Opening}
 use Rattle.heap_model.specs.declared.What.TheVariants as whats
-use Rattle.heap_model.specs.Buckets.{bucket_pages, block_count}
+use Rattle.heap_model.specs.Buckets.{bucket_of, bucket_pages, block_count}
 use Rattle.heap_model.specs.State.{Setting, Area, BackPart, Span, State, holds, is_entered, updated, insert_span}
 use Rattle.heap_model.specs.Backend.{back_place, free_runs}
 use Rattle.heap_model.specs.Ranges.{is_of_kind}
 use Rattle.heap_model.specs.Stay.{for_some, is_some_of}
 use Rattle.heap_model.specs.CallState.{Stage, NotBegun, AtHint, FirstPass, SecondPass, Configuration, CallState, CallerView, Nothing, SpanBy, caller_view}
-use Rattle.heap_model.specs.Search.{SearchKey, request_of, search_key_of, is_spent, all_read_at, draw_of, own_block, may_claim, asked_bucket, after_own_span}
+use Rattle.heap_model.specs.Search.{SearchKey, request_of, search_key_of, is_spent, all_read_at, draw_of, own_block, may_claim, asked_bucket, after_own_span, sought, searched}
 use Rattle.heap_model.specs.Legal.{after, may, may_follow, is_run_of, call_after, step_search, with_search, meets_demand, with_span}
 use Rattle.heap_model.specs.History.{configuration_after, may_all_follow}
 use Rattle.heap_model.specs.Layers.{StandsForBack, LayerState}
@@ -95,9 +95,9 @@ module _ (s : Setting) (m : Configuration) (n b t first draw : ℕ) where
         (and_from (meets_demand m.state.back.area (entry n (span_act first b t)) m.now.demand) (false || is_some (m.now.calls n).call) d h.begun) span_row
 
     asked : asked_bucket (m.now.calls n) ≡ Some b
-    asked = sought_asked s m.state n (m.now.calls n) b (by (Rattle.std.specs.Prelude.option_and_then Rattle.heap_model.specs.Buckets.bucket_of (Rattle.heap_model.specs.Search.sought s m.state n (m.now.calls n))) h.may.seeks)
+    asked = sought_asked s m.state n (m.now.calls n) b (by (option_and_then bucket_of (sought s m.state n (m.now.calls n))) h.may.seeks)
       where
-        by : (o : Option ℕ) → Rattle.heap_model.specs.Search.searched m.state.vs.active o ≡ Some b → o ≡ Some b
+        by : (o : Option ℕ) → searched m.state.vs.active o ≡ Some b → o ≡ Some b
         by None e = absurd (let no : ⊥ = cc in no)
         by (Some x) e = elim (cases_Bool (m.state.vs.active x)) [
           | inl y ↦ let z : Some x ≡ Some b = (rw y at e) in z
@@ -201,7 +201,7 @@ module _ (s : Setting) (m : Configuration) (n b t first draw : ℕ) (begun : is_
     area_is = ap (λ (p : BackPart). p.area) stands.part
 
     place_here : back_place m.state.back.area o.limits.segments (bucket_pages b) ≡ Some first
-    place_here = (λ j. back_place (area_is (Rattle.std.proofs.Common.~ j)) (stands.limits (Rattle.std.proofs.Common.~ j)).segments (bucket_pages b)) ∙ place
+    place_here = (λ j. back_place (sym area_is j) (sym stands.limits j).segments (bucket_pages b)) ∙ place
 
     installs : Installs (reserving_in n (area_of k).reserved first)
     installs = subst (λ (a : Area). Installs (reserving_in n a.reserved first)) (sym area_is) (elim (cases_Bool (nat_lt (first / 256) m.state.back.area.reserved)) [

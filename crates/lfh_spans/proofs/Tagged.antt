@@ -14,15 +14,15 @@ use Rattle.heap_model.specs.Marks.{lfh_mark}
 use Rattle.heap_model.specs.State.{Setting, Area, BackPart, GateAndLocks, Span, holds, insert_span, is_kind}
 use Rattle.heap_model.specs.Backend.{in_span}
 use Rattle.heap_model.specs.CallState.{Configuration, SpanHistory}
-use Rattle.heap_model.specs.Legal.{after, with_span, is_lfh_over, hints_with}
+use Rattle.heap_model.specs.Legal.{with_span, is_lfh_over, hints_with, put_maker, span_history_placed}
 use Rattle.heap_model.specs.History.{configuration_after}
 use Rattle.heap_soundness.specs.Sound.{IsOneOf, AreInOrder}
 use Rattle.heap_soundness.proofs.Lists.{found_in, found_passes, find_some}
 use Rattle.heap_soundness.proofs.Spans.{same_span}
 use Rattle.page_ranges.specs.Words.{runs_of}
 use Rattle.page_ranges.specs.Ranges.{AreRuns}
-use Rattle.page_ranges.specs.Spans.{is_of_span, spans_in}
-use Rattle.claim_rule.specs.Entries.{entry}
+use Rattle.page_ranges.specs.Spans.{is_of_span, span_of, spans_in}
+use Rattle.serial_laws.specs.BackCalls.{one_more_reserved}
 use Rattle.claim_rule.specs.Shown.{lfh_spans, tag_of, tag_word, hint_word}
 use Rattle.lfh_buckets.proofs.Seats.{block_end}
 use Rattle.step_parts.proofs.BlockWords.{in_lfh, into_lfh}
@@ -37,12 +37,12 @@ use Rattle.lfh_spans.proofs.Installing.{new_span}
 
 lower : (low from : ℕ) (xs : List Span) → low ≤ from → AreInOrder from xs → AreInOrder low xs
 lower low from [] l h = tt
-lower low from (x ∷ xs) l h = ((let a = h.0 in omega arith), h.1)
+lower low from (x ∷ xs) l h = ((let a = h.0 in omega arith), h.1, h.2)
 
 in_order : (words : List ℕ) (from to : ℕ) (rs : List real.Run) → AreRuns words from to rs → AreInOrder from (spans_in rs)
 in_order words from to [] h = tt
 in_order words from to (r ∷ rs) h = elim (cases_Bool (is_of_span r.mark.kind)) [
-  | inl e ↦ let a = h.0 in rw e ((omega arith), (h.1.some, subst (λ (x : ℕ). AreInOrder (x + r.pages) (spans_in rs)) (sym h.0) (in_order words (from + r.pages) to rs h.2)))
+  | inl e ↦ let a = h.0 in rw e ((omega arith), h.1.some, subst (λ (x : ℕ). AreInOrder (x + r.pages) (spans_in rs)) (sym h.0) (in_order words (from + r.pages) to rs h.2))
   | inr e ↦ rw e (lower from (from + r.pages) (spans_in rs) (omega arith) (in_order words (from + r.pages) to rs h.2))
 ]
 
@@ -110,6 +110,16 @@ module _ (a : Area) (first b t : ℕ) (order : AreInOrder 0 (with_span (with_seg
 
 ---- The state behind the entries of a subsegment that is made
 
+kept : (a : Area) (first : ℕ) → nat_lt (first / 256) a.reserved ≡ true → with_segment a first ≡ a
+kept a first e = rw e refl
+
+one_more : (a : Area) (first : ℕ) → nat_lt (first / 256) a.reserved ≡ false → with_segment a first ≡ one_more_reserved a
+one_more a first e = rw e refl
+
+-- a place under Back moves the hint
+placed_hint : (a : Area) (r : SpanHistory) (start : ℕ) (back : Bool) → back ≡ true → (span_history_placed a r start back layers.Lfh).hints ≡ hints_with r.hints (find (is_lfh_over start) a.spans)
+placed_hint a r start back e = rw e refl
+
 module _ (s : Setting) (m : Configuration) (n first b t i : ℕ) (held : holds m.state.gate n whats.Back ≡ true) where
   abbrev behind : Configuration
   behind = configuration_after s m (made_with n (reserving_in n m.state.back.area.reserved first) first (bucket_pages b) b t i)
@@ -122,6 +132,33 @@ module _ (s : Setting) (m : Configuration) (n first b t i : ℕ) (held : holds m
 
   pub is_behind : IsBehind (configuration_after s m (made_with n (reserving_in n m.state.back.area.reserved first) first (bucket_pages b) b t i))
   is_behind = elim (cases_Bool (nat_lt (first / 256) m.state.back.area.reserved)) [
-    | inl e ↦ rw e (record { gate = refl; back = refl; hints = rw held refl })
-    | inr e ↦ rw e (record { gate = refl; back = refl; hints = rw held refl })
+    | inl e ↦ rw e (record { gate = refl; back = ap made (sym (kept m.state.back.area first e)); hints = placed_hint (with_span m.state.back.area (new_span first b t)) (put_maker m.now.span_history n first kinds.Lfh) (block_address b first i) (holds m.state.gate n whats.Back) held })
+    | inr e ↦ rw e (record { gate = refl; back = ap made (sym (one_more m.state.back.area first e)); hints = placed_hint (with_span (one_more_reserved m.state.back.area) (new_span first b t)) (put_maker m.now.span_history n first kinds.Lfh) (block_address b first i) (holds m.state.gate n whats.Back) held })
   ]
+    where
+      made : Area → BackPart
+      made a = record { area = with_span a (new_span first b t); places = m.state.back.places }
+
+---- The pages of a back end
+
+runs_end : (words : List ℕ) (from to : ℕ) (rs : List real.Run) → AreRuns words from to rs → from ≤ to
+runs_end words from to [] h = omega (arith, h)
+runs_end words from to (r ∷ rs) h = let l = runs_end words (from + r.pages) to rs h.2 in omega arith
+
+span_end : (words : List ℕ) (from to : ℕ) (rs : List real.Run) (x : Span) → AreRuns words from to rs → IsOneOf x (spans_in rs) → x.first + x.pages ≤ to
+span_end words from to [] x h i = absurd i
+span_end words from to (r ∷ rs) x h i = by (is_of_span r.mark.kind) refl i (λ j. span_end words (from + r.pages) to rs x h.2 j)
+  where
+    by : (y : Bool) → is_of_span r.mark.kind ≡ y → IsOneOf x (spans_in (r ∷ rs)) → (IsOneOf x (spans_in rs) → x.first + x.pages ≤ to) → x.first + x.pages ≤ to
+    by true e j more = here (rw e at j)
+      where
+        here : IsOneOf x (span_of r ∷ spans_in rs) → x.first + x.pages ≤ to
+        here (inl f) = let l = runs_end words (from + r.pages) to rs h.2 in let a = h.0 in subst (λ (z : Span). z.first + z.pages ≤ to) f (omega arith)
+        here (inr k) = more k
+    by false e j more = more (rw e at j)
+
+-- no span ends behind the segments
+pub span_within : (k : Kept) (x : Span) → IsSound k → IsOneOf x (area_of k).spans → x.first + x.pages ≤ 256 * k.limits.segments
+span_within k x h i =
+    let l = span_end k.words 0 (length k.words) (runs_of k.words) x h.whole i in
+    let p = h.pages in let s = h.segments in omega (arith, l, p, s)
