@@ -7,3 +7,5 @@ pub mod Installing
 pub mod Tagged
 pub mod Drawn
 pub mod Installed
+pub mod Refusing
+pub mod Missing

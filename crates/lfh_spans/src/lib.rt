@@ -73,7 +73,7 @@ pub fn hint_under_back<T: Stands>(heap: &Heap<T>, c: &mut Caller<T>, bucket: u8)
     requires bucket { IsBucket bucket }
     requires slot { own_slot c.old < 16 }
     requires back { is_out whats.Back c.old.out ≡ true }
-    ensures reads { ReadsHint c.old c.new bucket result }
+    ensures { ReadsHint c.old c.new bucket result }
 {
     let _bounds = heap.limits();
     c.check();
@@ -123,11 +123,14 @@ pub fn install<T: Stands>(
     ensures prepared { IfNone result (c.new ≡ with_prepared c.old (NoSpan bucket)) }
     ensures back { IsBackOf c.new back.new }
 {
-    let made = install_again(heap, c, back, bucket, draw);
-    if made.is_none() {
-        prepare(c, Act::NoSpan { bucket });
+    c.check();
+    match install_again(heap, c, back, bucket, draw) {
+        Some(addr) => Some(addr),
+        None => {
+            prepare(c, Act::NoSpan { bucket });
+            None
+        }
     }
-    made
 }
 
 /// As `install`, in a call that has answered `None` before: `None` leaves the caller as it was.
