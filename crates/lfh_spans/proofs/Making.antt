@@ -161,31 +161,3 @@ module _ {T : Type 0} (z : TableId) (me : Me (Option T) View) (f : Face) (slot :
       block = with_left z me f slot stream h me' left le (λ s m. HasBlock m f.number b (block_address b first i)) tells;
       stands = is_made.stands;
     }
-
-  module _ (first pages b t : ℕ) (owes : me'.0.owes ≡ owed_by_retire b t first pages me.0.owes) (go : Goes f.number me.0 me'.0 f.prepared (entry f.number (acts.Unspan first) ∷ [])) where
-    abbrev deed : List Entry
-    deed = entry f.number (acts.Unspan first) ∷ []
-
-    closed : AreClosed f.number (entry f.number (acts.Unspan first) ∷ [])
-    closed = ((refl, λ m. refl), tt)
-
-    pub is_given_up : Acted z me f slot stream h me' z' left (entry f.number (acts.Unspan first) ∷ []) (as_was z me f slot stream h) (owed_by_retire b t first pages me.0.owes)
-    is_given_up = acted z me f slot stream h w me' deed (moved_by z me f slot stream h me'.0 deed (closed_by f.number deed closed) go) z' left ez le (as_was z me f slot stream h) (record {
-      slots = subst AreOut (sym slots) h.slots;
-      out_is = ap outs slots;
-      at = at_behind z me f slot stream h me'.0 deed (closed_by f.number deed closed) go (λ m. IsAt m f.number f.call f.fresh f.inside f.depth (outs me.1) true f.free)
-          (λ s m a. at_plain s m f.number f.call f.fresh f.inside f.depth (outs me.1) f.whole f.free (acts.Unspan first) refl refl refl refl a);
-      marks_are = refl;
-      made_is = refl;
-      rests = h.even.rests;
-      drawn = h.even.drawn;
-    }) (owed_by_retire b t first pages me.0.owes) owes
-
-    pub gives_up : Runs (tok z me f) (tok z' me' (faced z me f slot stream h (as_was z me f slot stream h) left)) (entry f.number (acts.Unspan first) ∷ [])
-    gives_up = record {
-      does = is_given_up.does;
-      agrees = with_left z me f slot stream h me' left le (λ s m. AgreesFor f.number m (configuration_after s (ready_after s me.0 f.prepared) deed))
-          (λ s q. closed_agrees s f.number me.0 me'.0 f.prepared deed (go.goes s q) closed);
-      hands = with_left z me f slot stream h me' left le (λ s m. hands m.state f.number ≡ hands (ready_after s me.0 f.prepared).state f.number)
-          (λ s q. same_in_hand s f.number me.0 me'.0 f.prepared deed (go.goes s q) (λ m. refl));
-    }

@@ -23,7 +23,7 @@ use Rattle.span_steps.specs.Installs.{MayInstall, IsReserving, making, owed_by_i
 use Rattle.span_steps.specs.Retires.{MayRetire, owed_by_retire}
 use Rattle.step_parts.specs.InHand.{HasBlock}
 use Rattle.lfh_spans.specs.Stores.{reserving_in, HasMade}
-use Rattle.lfh_spans.proofs.Making.{reserves, behind_make, is_made, has_made, is_given_up, gives_up}
+use Rattle.lfh_spans.proofs.Making.{reserves, behind_make, is_made, has_made}
 use Rattle.lfh_spans.proofs.stores.make.Goals as goal
 
 pub install_by-requires-clause-reserve : goal.install_by-requires-clause-reserve
