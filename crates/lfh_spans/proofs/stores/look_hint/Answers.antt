@@ -1,23 +1,13 @@
-use Rattle.std.proofs.Common.{◌≡◌, ℕ, ◌∙◌, true, List, [], ◌∷◌, sym, subst, ap, arith}
+use Rattle.std.proofs.Common.{ℕ, ◌<◌, length, ◌∙◌, [], sym, subst, ap, arith}
 use Rattle.random_pick.specs.CallerDraws.{words_of}
-use Rattle.claim_rule.specs.declared.views.Owed.{Owed}
-use Rattle.claim_rule.specs.Places.{tag_at, hint_at}
-use Rattle.claim_rule.specs.Rule.{ready_after}
-use Rattle.claim_rule.specs.Shown.{lfh_spans, tag_word, hint_word}
-use Rattle.heap_model.specs.State.{Setting, holds}
-use Rattle.heap_model.specs.CallState.{Configuration}
-use Rattle.heap_model.specs.declared.What.TheVariants as whats
-use Rattle.heap_gate.specs.Token.{Token, Always, now, outs, is_out}
+use Rattle.heap_gate.specs.Token.{Token, Always, now}
 use Rattle.heap_gate.specs.Seated.{Face, tok}
 use Rattle.heap_gate.specs.Calls.{Runs, Stands, stance}
-use Rattle.heap_gate.proofs.Tokens.{as_was, faced, goes_by, may_by, with_left}
-use Rattle.span_steps.specs.Stores.{paid_off, owed_zero}
-use Rattle.lfh_spans.specs.Stores.{AreTagged}
-use Rattle.lfh_spans.specs.Hints.{own_slot}
+use Rattle.heap_gate.proofs.Tokens.{as_was, faced, goes_by, with_left}
 use Rattle.claim_rule.specs.Plays.{number_of}
 use Rattle.heap_model.specs.History.{configuration_of}
-use Rattle.look_steps.specs.Looks.{IsHintWord, IsTagWord}
-use Rattle.lfh_spans.proofs.Quiet.{quiet, quiet_runs, has_back}
+use Rattle.look_steps.specs.Looks.{IsHintWord}
+use Rattle.lfh_spans.proofs.Quiet.{quiet, quiet_runs}
 use Rattle.heap_model.specs.Limits.{AreValid}
 use Rattle.heap_model.specs.declared.Opening.{Opening}
 use Rattle.claim_rule.specs.Entries.{setting_of}
@@ -66,3 +56,8 @@ returns-clause-small g c =
     let s = setting_of p.me.0.opening p.me.0.roll in let q = some_setting p.me.0.opening p.me.0.roll in
     let valid = subst AreValid (c.limits-limits.ensures.limits ∙ ap (λ (o : Opening). o.limits) (sym c.requires.table.1 ∙ (sym (ap (λ (t : Token). t.opening) v) ∙ sym told.goes.opening))) c.limits-limits.ensures.valid in
     hint_small s p.me.0.seen (number_of me.0.role) c.args.bucket c.args.slot me.0.owes c.look_hint_by-word.result (let y = valid.some_segments in omega arith) (told.goes.legal s q) (told.tells s q)
+
+pub returns-clause-known : goal.returns-clause-known
+returns-clause-known g c =
+    let i = c.c.inside in let f : Face = record { number = i.number; prepared = i.prepared.items; pending = i.pending; call = i.call; fresh = i.fresh; locked = i.locked; inside = i.inside; depth = i.depth; whole = i.whole; free = i.free; drawn = i.drawn } in let h = c.c.invariant in let z = i.place.table_id in let me = i.place.me in let stream = words_of i.draws in let v = c.c.view_is in
+    subst (λ (t : Token). t.number < length t.roll) v h.known

@@ -5,7 +5,7 @@ use Rattle.claim_rule.specs.Places.{tag_at}
 use Rattle.span_steps.specs.Stores.{paid_off}
 use Rattle.data_words.proofs.Copying.{runs_then, none}
 use Rattle.lfh_spans.specs.Stores.{paid_tags}
-use Rattle.lfh_spans.proofs.Joined.{stands_owing, tags_still}
+use Rattle.lfh_spans.proofs.Joined.{stands_owing, has_back_by, tags_still}
 use Rattle.lfh_spans.proofs.stores.tag_pages.Goals as goal
 
 -- the limits are small
@@ -19,7 +19,7 @@ put_tag-requires-clause-tag g c = λ s q page low high.
     let at = c.args.at in let l = c.loop-done-test.true in
     let b = c.from.ensures in let t = c.from-2.ensures in let f = c.from-3.ensures in
     let e : 1 + 256 * at.bucket + 65536 * at.slot + 4294967296 * at.head ≡ 1 + 256 * c.from.result + 65536 * c.from-2.result + 4294967296 * c.from-3.result = omega arith in
-    tags_still c.args.c.now c.loop-done.c c.loop-done.invariant.runs c.check.ensures.stands c.requires.held at.head at.pages (1 + 256 * at.bucket + 65536 * at.slot + 4294967296 * at.head) c.requires.tags s q page (omega arith) (omega arith) ∙ e
+    tags_still c.args.c.now c.loop-done.c c.loop-done.invariant.runs (has_back_by c.args.c.now c.check.ensures.stands c.requires.held) at.head at.pages (1 + 256 * at.bucket + 65536 * at.slot + 4294967296 * at.head) c.requires.tags s q page (omega arith) (omega arith) ∙ e
 
 pub loop-done-preserved : goal.loop-done-preserved
 loop-done-preserved g c =

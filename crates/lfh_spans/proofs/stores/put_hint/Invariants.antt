@@ -1,5 +1,5 @@
 use Rattle.std.proofs.Common.{false}
-use Rattle.lfh_spans.proofs.set_hint.Given as goal
+use Rattle.lfh_spans.proofs.stores.put_hint.Given as goal
 
 abbrev pub ghosts-put_hint_by-E-Carried : goal.ghosts-put_hint_by-E-Carried
 ghosts-put_hint_by-E-Carried g a = record { entries = a._prepared.now.items }
