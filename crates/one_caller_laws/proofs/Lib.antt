@@ -15,3 +15,5 @@ pub mod Makes
 pub mod Spans
 pub mod Placing
 pub mod Allocs
+pub mod Counted
+pub mod Compacting
