@@ -23,7 +23,7 @@ pub record IsZeroGate (f : GateAndLocks) : Type 0 where
   pub owner : is_another 0 f.owner ≡ false
   pub holders : (w : What) → is_another 0 (holder_of f.locks w) ≡ false
 
-no_other : (o : Option ℕ) → is_another 0 o ≡ false → is_caller 0 o ≡ false → o ≡ None
+pub no_other : (o : Option ℕ) → is_another 0 o ≡ false → is_caller 0 o ≡ false → o ≡ None
 no_other None a b = refl
 no_other (Some d) a b = absurd (both_ways (eqb d 0) b (not-false (eqb d 0) a))
 

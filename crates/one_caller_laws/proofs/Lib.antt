@@ -17,3 +17,4 @@ pub mod Placing
 pub mod Allocs
 pub mod Counted
 pub mod Compacting
+pub mod Compact

@@ -44,3 +44,8 @@ pub fn unlock_is_determined()
 pub fn walk_is_determined()
     ensures { (from : ℕ) → IsDetermined (calls.WalkNext from) }
 {}
+
+/// A compaction.
+pub fn compaction_is_determined()
+    ensures { IsDetermined calls.Compact }
+{}
