@@ -18,3 +18,4 @@ pub mod Allocs
 pub mod Counted
 pub mod Compacting
 pub mod Compact
+pub mod Runs
