@@ -19,3 +19,4 @@ pub mod Counted
 pub mod Compacting
 pub mod Compact
 pub mod Runs
+pub mod Others

@@ -4,6 +4,7 @@
 ghost use Rattle.std.specs.Prelude.{ℕ};
 ghost use Rattle.heap_model.specs.declared.Call.TheVariants as calls;
 ghost use Rattle.one_caller_laws.specs.OneCall.{AllocationIsDetermined, IsDetermined};
+ghost use Rattle.one_caller_laws.specs.Asked.{EachThenAll, RunsOfOthersAreOne};
 
 /// An allocation in which the front end has no part: large, of the back end, or of the variable-size layer.
 pub fn allocation_is_determined()
@@ -48,4 +49,14 @@ pub fn walk_is_determined()
 /// A compaction.
 pub fn compaction_is_determined()
     ensures { IsDetermined calls.Compact }
+{}
+
+/// Where each call that a script asks is determined, two runs of it are one.
+pub fn each_then_all()
+    ensures { EachThenAll }
+{}
+
+/// So are two runs of a script in which the front end has no part, and nothing is reallocated.
+pub fn runs_of_others_are_one()
+    ensures { RunsOfOthersAreOne }
 {}
