@@ -20,3 +20,4 @@ pub mod Compacting
 pub mod Compact
 pub mod Runs
 pub mod Others
+pub mod WorkedPairs
