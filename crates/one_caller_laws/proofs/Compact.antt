@@ -1,25 +1,24 @@
 -- What a compaction leaves, and its number.
-use Rattle.std.proofs.Common.{◌≡◌, ◌⊎◌, ℕ, zero, suc, ◌+◌, ◌*◌, ◌/◌, ◌<◌, ◌≤◌, Bool, true, false, ◌&&◌, ◌||◌, not, cond, List, [], ◌∷◌, ◌++◌, map, length, Option, Some, None, refl, sym, ap, ◌∙◌, subst, inl, inr, arith, ltb}
+use Rattle.std.proofs.Common.{◌≡◌, ℕ, ◌+◌, ◌*◌, ◌/◌, Bool, true, false, ◌&&◌, not, List, [], ◌∷◌, ◌++◌, map, length, Option, Some, None, refl, sym, ap, ◌∙◌, subst, inl, inr, arith, ltb}
 use Rattle.std.specs.Prelude.{filter}
 use Rattle.std.specs.List.{list_all, list_any}
 use Rattle.std.proofs.lemmas.Bool.{cases_Bool, and_parts, both_ways, false≢true, not-true, ltb-true, eqb-true, eq-eqb, false_from_ne_true}
 use Rattle.heap_model.specs.declared.Act.{Act}
 use Rattle.heap_model.specs.declared.Act.TheVariants as acts
-use Rattle.heap_model.specs.declared.Call.{Call}
 use Rattle.heap_model.specs.declared.Call.TheVariants as calls
 use Rattle.heap_model.specs.declared.Kind.{Kind}
 use Rattle.heap_model.specs.declared.Kind.TheVariants as kinds
 use Rattle.heap_model.specs.declared.Reply.{Reply}
 use Rattle.heap_model.specs.declared.Reply.TheVariants as replies
-use Rattle.heap_model.specs.State.{Setting, IsValidSetting, State, Area, Span, is_kind, is_caller}
+use Rattle.heap_model.specs.State.{Setting, State, Span, is_kind, is_caller}
 use Rattle.heap_model.specs.Backend.{numbers, in_span}
 use Rattle.heap_model.specs.Ranges.{is_of_kind}
 use Rattle.heap_model.specs.CallState.{Configuration, caller_view}
-use Rattle.heap_model.specs.Search.{begins_at, first_of, hint_or, spans_of, is_span_of}
+use Rattle.heap_model.specs.Search.{begins_at, first_of, hint_or, is_span_of}
 use Rattle.heap_model.specs.Legal.{may_follow, after, has_place, are_used}
 use Rattle.heap_model.specs.Alone.{by_zero, configuration_by}
 use Rattle.heap_model.specs.Moments.{moments_by, state_before_last, In}
-use Rattle.heap_model.specs.Shape.{is_left_out, shape_of, under_lock, loose_pages, IsCompact, Compacts, HasShape, Replied}
+use Rattle.heap_model.specs.Shape.{shape_of, under_lock, loose_pages, IsCompact, Compacts, HasShape, Replied}
 use Rattle.heap_model.proofs.GateSound.{row_of}
 use Rattle.heap_soundness.specs.Sound.{IsOneOf, AreInOrder}
 use Rattle.heap_soundness.proofs.Lists.{any_found, any_in}
@@ -28,15 +27,15 @@ use Rattle.heap_soundness.proofs.GapRuns.{filtered_cases, in_filtered}
 use Rattle.heap_soundness.proofs.Spans.{same_first}
 use Rattle.heap_soundness.proofs.Lists.{found_in}
 use Rattle.search_laws.proofs.Filtered.{all_kept}
-use Rattle.one_caller_laws.specs.OneCall.{IsBetween, AreAlike, Answers, IsDetermined, IsSameReply}
+use Rattle.one_caller_laws.specs.OneCall.{IsDetermined}
 use Rattle.one_caller_laws.proofs.Gate.{no_other}
 use Rattle.one_caller_laws.proofs.Core.{Core, core_of, hints_of}
 use Rattle.one_caller_laws.proofs.InCall.{InCall, is_quiet, quiet_core, IsWhole, shows_or_ends, each_passes}
 use Rattle.one_caller_laws.proofs.Reach.{Goes, may_first, no_begin, shown_place, shown_cases}
-use Rattle.one_caller_laws.proofs.Pair.{begun_within, begun_whole, begun_same, goes_from, shown_is, none_asked, ends_alike, HintsAlike}
+use Rattle.one_caller_laws.proofs.Pair.{begun_within, begun_whole, begun_same, goes_from, shown_is, none_asked, ends_alike}
 use Rattle.one_caller_laws.proofs.Asks.{same_reply}
 use Rattle.one_caller_laws.proofs.Counted.{in_numbers, first_stays}
-use Rattle.one_caller_laws.proofs.Compacting.{has_any, is_kept, kept_spans, shaped, still_named, loose_in, IsCompacting, same_kept, Placeless, placeless_is, is_lockish, one_page, pages_in, owned, Compacted, compacted}
+use Rattle.one_caller_laws.proofs.Compacting.{has_any, is_kept, kept_spans, shaped, still_named, loose_in, IsCompacting, same_kept, placeless_is, is_lockish, pages_in, owned, compacted}
 
 ---- What it shows
 
@@ -294,14 +293,15 @@ compact_determined s m n reply other rest others valid b c alike x y =
     let e = compacts_so s m p.0 rest w (begun_whole s call m valid b h) g p.2 in
     let f = compacts_so s n q.0 others (begun_within s call n valid c i) (begun_whole s call n valid c i) j q.2 in
     let core = begun_same s call m n alike in
-    let number : p.0 ≡ q.0 = e.counted ∙ ap (λ (d : Core). loose_in (kept_spans d) d.back.area.reserved d.back.area.committed) core ∙ sym f.counted in
-    (same_reply reply other (p.1 ∙ ap replies.Compacted number ∙ sym q.1),
-     ends_alike s call (configuration_by s k rest) (configuration_by s l others) e.within f.within g.idle j.idle (e.core ∙ ap compacted_core core ∙ sym f.core) (λ b t.
-     let xs = k.state.back.area.spans in
-     let same_area : (λ (d : Core). d.back.area.spans) (core_of l) ≡ xs = ap (λ (d : Core). d.back.area.spans) (sym core) in
-     let given : hint_or (hints_of k b t) (first_of (filter (is_span_of b t) xs)) ≡ hint_or (hints_of l b t) (first_of (filter (is_span_of b t) xs)) =
-     alike.hints b t ∙ ap (λ (ys : List Span). hint_or (hints_of l b t) (first_of (filter (is_span_of b t) ys))) same_area in
-     (λ z. hint_or (e.hints b t z) (first_of (filter (is_span_of b t) (e.core z).back.area.spans)))
-     ∙ named_alike b t (is_kept (core_of k)) xs (hints_of k b t) (hints_of l b t) w.keeps.heap.spans.in_order given
-     ∙ ap (λ (d : Core). hint_or (still_named (kept_spans d) (hints_of l b t)) (first_of (filter (is_span_of b t) (kept_spans d)))) core
-     ∙ sym (λ z. hint_or (f.hints b t z) (first_of (filter (is_span_of b t) (f.core z).back.area.spans)))))
+    let number : p.0 ≡ q.0 = e.counted ∙ ap (λ (d : Core). loose_in (kept_spans d) d.back.area.reserved d.back.area.committed) core ∙ sym f.counted in (
+      same_reply reply other (p.1 ∙ ap replies.Compacted number ∙ sym q.1),
+      ends_alike s call (configuration_by s k rest) (configuration_by s l others) e.within f.within g.idle j.idle (e.core ∙ ap compacted_core core ∙ sym f.core) (λ b t.
+          let xs = k.state.back.area.spans in
+          let same_area : (λ (d : Core). d.back.area.spans) (core_of l) ≡ xs = ap (λ (d : Core). d.back.area.spans) (sym core) in
+          let given : hint_or (hints_of k b t) (first_of (filter (is_span_of b t) xs)) ≡ hint_or (hints_of l b t) (first_of (filter (is_span_of b t) xs)) =
+          alike.hints b t ∙ ap (λ (ys : List Span). hint_or (hints_of l b t) (first_of (filter (is_span_of b t) ys))) same_area in
+          (λ z. hint_or (e.hints b t z) (first_of (filter (is_span_of b t) (e.core z).back.area.spans)))
+          ∙ named_alike b t (is_kept (core_of k)) xs (hints_of k b t) (hints_of l b t) w.keeps.heap.spans.in_order given
+          ∙ ap (λ (d : Core). hint_or (still_named (kept_spans d) (hints_of l b t)) (first_of (filter (is_span_of b t) (kept_spans d)))) core
+          ∙ sym (λ z. hint_or (f.hints b t z) (first_of (filter (is_span_of b t) (f.core z).back.area.spans)))),
+    )

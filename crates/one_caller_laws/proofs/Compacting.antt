@@ -1,33 +1,29 @@
 -- A compaction, from act to act: what is left of the spans, of the committed pages and of the hints, in whatever order they go.
-use Rattle.std.proofs.Common.{◌≡◌, ◌⊎◌, ℕ, zero, suc, ◌+◌, ◌*◌, ◌/◌, ◌<◌, ◌≤◌, Bool, true, false, ◌&&◌, ◌||◌, not, cond, List, [], ◌∷◌, ◌++◌, map, length, Option, Some, None, refl, sym, ap, ◌∙◌, subst, inl, inr, arith, eqb, ltb}
+use Rattle.std.proofs.Common.{◌≡◌, ℕ, suc, ◌+◌, ◌*◌, ◌/◌, Bool, true, false, ◌&&◌, not, cond, List, [], ◌∷◌, ◌++◌, length, Option, Some, None, refl, sym, ap, ◌∙◌, subst, inl, inr, arith, eqb, ltb}
 use Rattle.std.specs.Prelude.{filter}
-use Rattle.std.specs.List.{find, list_all, list_any}
-use Rattle.std.proofs.lemmas.Bool.{cases_Bool, and_parts, both_ways, false≢true, true≢false, not-true, ltb-true, eq-eqb, eqb-true, ne_eqb, or_from, false_from_ne_true}
+use Rattle.std.specs.List.{list_all, list_any}
+use Rattle.std.proofs.lemmas.Bool.{cases_Bool, and_parts, both_ways, false≢true, not-true, ltb-true, eq-eqb, eqb-true, ne_eqb, false_from_ne_true}
 use Rattle.heap_model.specs.declared.Act.{Act}
 use Rattle.heap_model.specs.declared.Act.TheVariants as acts
-use Rattle.heap_model.specs.declared.Call.{Call}
 use Rattle.heap_model.specs.declared.Call.TheVariants as calls
 use Rattle.heap_model.specs.declared.Kind.{Kind}
 use Rattle.heap_model.specs.declared.Kind.TheVariants as kinds
-use Rattle.heap_model.specs.State.{Setting, Area, Span, is_kind, updated, remove_found}
+use Rattle.heap_model.specs.State.{Setting, Area, Span, updated, remove_found}
 use Rattle.heap_model.specs.Backend.{numbers, in_span}
-use Rattle.heap_model.specs.Ranges.{is_of_kind}
 use Rattle.heap_model.specs.Stay.{for_some, is_some_of}
 use Rattle.heap_model.specs.CallState.{Configuration, caller_view}
 use Rattle.heap_model.specs.Search.{span_at, begins_at}
-use Rattle.heap_model.specs.Legal.{may_follow, after, is_begin, has_place, may_unspan_of, is_unused, places_in, forget_hint}
+use Rattle.heap_model.specs.Legal.{may_follow, after, is_begin, has_place, may_unspan_of, is_unused, places_in}
 use Rattle.heap_model.specs.Alone.{by_zero, configuration_by}
 use Rattle.heap_model.specs.Shape.{is_left_out, shape_of}
 use Rattle.heap_model.proofs.GateSound.{row_of}
 use Rattle.heap_model.proofs.ListLemmas.{for_some_parts, filter-remove_found}
 use Rattle.heap_soundness.specs.Sound.{IsOneOf, AreInOrder}
-use Rattle.heap_soundness.proofs.Enums.{kind_is}
-use Rattle.heap_soundness.proofs.Lists.{found_in, any_in, any_found, none_from, all_from}
-use Rattle.heap_soundness.proofs.GapRuns.{in_filtered}
+use Rattle.heap_soundness.proofs.Lists.{any_in, any_found, none_from, all_from}
 use Rattle.heap_soundness.proofs.Spans.{above, in_removed}
 use Rattle.one_caller_laws.proofs.Core.{Core, core_of, hints_of}
-use Rattle.one_caller_laws.proofs.InCall.{InCall, in_call_after, is_quiet, quiet_core, quiet_hints, quiet_left_out, IsWhole, shows_or_ends, is_shown, each_passes}
-use Rattle.one_caller_laws.proofs.Reach.{Goes, goes_after, may_first, no_begin, shown_place, shown_cases, is_maker}
+use Rattle.one_caller_laws.proofs.InCall.{InCall, in_call_after, is_quiet, quiet_core, quiet_hints, quiet_left_out, shows_or_ends}
+use Rattle.one_caller_laws.proofs.Reach.{Goes, goes_after, may_first, no_begin, shown_place, shown_cases}
 use Rattle.one_caller_laws.proofs.Pair.{none_asked}
 use Rattle.one_caller_laws.proofs.Counted.{one_less, any_filtered, was_there}
 
@@ -140,7 +136,7 @@ named_removed first low xs None a = refl
 named_removed first low xs (Some h) a = elim (cases_Bool (list_any (begins_at h) xs)) [
   | inr e ↦
       let gone : list_any (begins_at h) (remove_found (begins_at first) xs) ≡ false = false_from_ne_true _ (λ q.
-          let x = any_found (begins_at h) (remove_found (begins_at first) xs) q in both_ways _ e (any_in (begins_at h) xs x.0 (was_there (begins_at first) x.0 xs x.1) x.2)) in
+      let x = any_found (begins_at h) (remove_found (begins_at first) xs) q in both_ways _ e (any_in (begins_at h) xs x.0 (was_there (begins_at first) x.0 xs x.1) x.2)) in
       rw (e, gone) refl
   | inl e ↦ elim (cases_Bool (eqb h first)) [
     | inl f ↦

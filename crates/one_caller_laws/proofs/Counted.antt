@@ -1,11 +1,11 @@
 -- Numbers that pass a test, counted; and lists of which some stay.
-use Rattle.std.proofs.Common.{◌≡◌, ◌⊎◌, ℕ, zero, suc, ◌+◌, ◌*◌, ◌<◌, ◌≤◌, Bool, true, false, ◌&&◌, ◌||◌, not, cond, List, [], ◌∷◌, length, Option, Some, None, refl, sym, ap, ◌∙◌, subst, inl, inr, arith, eqb}
+use Rattle.std.proofs.Common.{◌≡◌, ℕ, zero, suc, ◌+◌, ◌<◌, ◌≤◌, Bool, true, false, cond, List, [], ◌∷◌, length, Some, refl, sym, ap, ◌∙◌, inl, inr, arith}
 use Rattle.std.specs.Prelude.{filter}
-use Rattle.std.specs.List.{find, list_any}
-use Rattle.std.proofs.lemmas.Bool.{cases_Bool, cases_eq, or_cases, or_left, or_right, eq-eqb, eqb-true, ne_eqb}
+use Rattle.std.specs.List.{list_any}
+use Rattle.std.proofs.lemmas.Bool.{cases_Bool, cases_eq, or_cases, or_left, or_right}
 use Rattle.heap_model.specs.Backend.{numbers}
 use Rattle.heap_model.specs.State.{Span, remove_found}
-use Rattle.heap_model.specs.Search.{begins_at, first_of}
+use Rattle.heap_model.specs.Search.{first_of}
 use Rattle.heap_soundness.specs.Sound.{IsOneOf}
 
 same_above : (t u : ℕ → Bool) (p at n : ℕ) → p < at → ((x : ℕ) → (x ≡ p → ⊥) → u x ≡ t x) → filter u (numbers at n) ≡ filter t (numbers at n)

@@ -1,8 +1,6 @@
 -- From single calls to runs of a script.
-use Rattle.std.proofs.Common.{◌≡◌, ◌⊎◌, ℕ, ◌+◌, ◌==◌, Bool, true, false, ◌&&◌, not, cond, List, [], ◌∷◌, ◌++◌, map, Option, Some, None, refl, sym, ap, ◌∙◌, subst, inl, inr}
-use Rattle.std.specs.Prelude.{is_some}
-use Rattle.std.specs.List.{list_all}
-use Rattle.std.proofs.lemmas.Bool.{cases_Bool, and_parts, and_from, false≢true, true≢false}
+use Rattle.std.proofs.Common.{◌≡◌, ℕ, ◌+◌, ◌==◌, Bool, true, false, List, [], ◌∷◌, ◌++◌, Option, Some, None, refl, sym, ap, ◌∙◌, subst}
+use Rattle.std.proofs.lemmas.Bool.{and_parts, and_from, false≢true, true≢false}
 use Rattle.heap_model.specs.declared.Act.{Act}
 use Rattle.heap_model.specs.declared.Act.TheVariants as acts
 use Rattle.heap_model.specs.declared.Block.{Block}
@@ -12,7 +10,7 @@ use Rattle.heap_model.specs.declared.Reply.{Reply}
 use Rattle.heap_model.specs.declared.Reply.TheVariants as replies
 use Rattle.heap_model.specs.State.{Setting, State, IsValidSetting, Place, hands}
 use Rattle.heap_model.specs.CallState.{Configuration, Demand, Nothing, SpanBy, PlaceBy, UnspanBy, caller_view, is_outside, holds_none}
-use Rattle.heap_model.specs.Legal.{may_follow, after, is_begin, is_empty, meets_demand}
+use Rattle.heap_model.specs.Legal.{may_follow, after, is_empty, meets_demand}
 use Rattle.heap_model.specs.History.{first_configuration}
 use Rattle.heap_model.specs.Alone.{by_zero, configuration_by, may_all_come}
 use Rattle.heap_model.specs.Moments.{Moment, moments_by, acts_of}
@@ -23,7 +21,7 @@ use Rattle.heap_model.proofs.Moments.{acts_by}
 use Rattle.heap_soundness.proofs.Kept.{demand_met}
 use Rattle.serial_laws.proofs.Turns.{first_idle}
 use Rattle.one_caller_laws.specs.OneCall.{IsBetween, AreAlike, Answers, IsDetermined, IsSameReply}
-use Rattle.one_caller_laws.specs.Asked.{Script, IsScripted, Runs, AreOne, AsksOnly, EachThenAll}
+use Rattle.one_caller_laws.specs.Asked.{Script, IsScripted, Runs, AsksOnly, EachThenAll}
 
 ---- A call at the front of acts
 
@@ -287,7 +285,7 @@ walk_of_both s (replies.Walked c ∷ []) rs_too count from m rest n others made 
         subst (λ (l : List Reply). Both s m rest n others (replies.Walked c ∷ []) l later later_too) same (x.both (replies.Walked c ∷ []))
     by_other (GoesOn d more its after_its is parts_are gets walks) =
         let x = one_of_both s (calls.WalkNext from) m rest n others (replies.Walked c) (replies.Seen d) made its later (after_its ++ later_too) valid (det from) alike f g e (h ∙ ap (λ (l : List Moment). l ++ later_too) parts_are ∙ append_again its after_its later_too) w.1 gets a
-            (λ k last q. walk_starts s (count + 1) (d.addr + 1) more after_its later_too k last walks q) in
+        (λ k last q. walk_starts s (count + 1) (d.addr + 1) more after_its later_too k last walks q) in
         absurd (let z : replies.Walked c ≡ replies.Seen d = x.same in let bad : ⊥ = cc in bad)
 walk_of_both s (replies.Seen c ∷ rs) rs_too count from m rest n others made made_too later later_too valid det alike f g e h w v a b =
     elim (walk_ends s count from rs_too made_too v) [
@@ -428,9 +426,10 @@ both_run s script (call ∷ asked) (other ∷ asked_too) depth before rs rs_too 
     let y2 = subst (IsScripted (GetsReply s 0) script (depth_after depth call u.0) (before ++ u.0) asked_too v.1) b.later_too_is
     (subst (λ (l : List Reply). IsScripted (GetsReply s 0) script (depth_after depth call l) (before ++ l) asked_too v.1 v.3) (sym b.same)
     (subst (λ (c : Call). IsScripted (GetsReply s 0) script (depth_after depth c v.0) (before ++ v.0) asked_too v.1 v.3) same_call v.7)) in
-    let r = both_run s script asked asked_too (depth_after depth call u.0) (before ++ u.0) u.1 v.1 b.at b.last b.at_too b.last_too valid det walks b.alike b.from b.from_too x2 y2 in
-    (u.4 ∙ (λ i. b.same i ++ r.0 i) ∙ sym v.4,
-     subst (λ (k : Configuration). AreAlike k (configuration_by s n others)) (sym b.ends) (subst (λ (k : Configuration). AreAlike (configuration_by s b.at b.last) k) (sym b.ends_too) r.1))
+    let r = both_run s script asked asked_too (depth_after depth call u.0) (before ++ u.0) u.1 v.1 b.at b.last b.at_too b.last_too valid det walks b.alike b.from b.from_too x2 y2 in (
+      u.4 ∙ (λ i. b.same i ++ r.0 i) ∙ sym v.4,
+      subst (λ (k : Configuration). AreAlike k (configuration_by s n others)) (sym b.ends) (subst (λ (k : Configuration). AreAlike (configuration_by s b.at b.last) k) (sym b.ends_too) r.1),
+    )
 
 self_alike : (m : Configuration) → AreAlike m m
 self_alike m = record { state = refl; searches = refl; hints = λ b t. refl }

@@ -1,12 +1,12 @@
 -- The worked pairs evaluate.
-use Rattle.std.proofs.Common.{◌≡◌, ℕ, ◌<◌, ◌++◌, List, ◌∷◌, true, Some, refl, sym, ◌∙◌, arith}
+use Rattle.std.proofs.Common.{◌≡◌, ℕ, ◌<◌, ◌++◌, ◌∷◌, Some, refl, sym, ◌∙◌, arith}
 use Rattle.heap_model.specs.State.{IsValidSetting}
 use Rattle.rand_pcg.specs.Lcg.{state_after}
 use Rattle.heap_model.specs.Search.{draw_of, hint}
 use Rattle.heap_model.specs.Alone.{configuration_by}
 use Rattle.heap_model.specs.declared.Act.TheVariants as acts
 use Rattle.one_caller_laws.specs.OneCall.{AreAlike}
-use Rattle.one_caller_laws.specs.Worked.{one, straight, winding, TwoWays, seventeen, two_spans, filled, under_lock, behind_lock, asks_again, TwoHints, TwoReplies, SearchIsNotDetermined}
+use Rattle.one_caller_laws.specs.Worked.{one, TwoWays, seventeen, two_spans, filled, under_lock, behind_lock, asks_again, TwoHints, TwoReplies, SearchIsNotDetermined}
 
 pub two_ways : TwoWays
 two_ways = record {

@@ -1,5 +1,5 @@
 -- A worked pair of different lists of one call, and a case in which two lists of one call are told apart by later calls.
-use Rattle.std.specs.Prelude.{◌≡◌, ℕ, ◌+◌, ◌*◌, ◌^◌, List, [], ◌∷◌, ◌++◌, map, Some}
+use Rattle.std.specs.Prelude.{ℕ, ◌+◌, ◌*◌, ◌^◌, List, [], ◌∷◌, ◌++◌, map}
 use Rattle.heap_model.specs.declared.Call.{Call}
 use Rattle.heap_model.specs.declared.Call.TheVariants as calls
 use Rattle.heap_model.specs.declared.Act.{Act}
@@ -11,7 +11,6 @@ use Rattle.heap_model.specs.declared.What.TheVariants as whats
 use Rattle.heap_model.specs.State.{Setting}
 use Rattle.heap_model.specs.Backend.{numbers}
 use Rattle.heap_model.specs.CallState.{Configuration}
-use Rattle.heap_model.specs.Search.{hint}
 use Rattle.heap_model.specs.History.{first_configuration}
 use Rattle.heap_model.specs.Alone.{alone, configuration_by}
 use Rattle.heap_model.specs.Served.{in_line}
