@@ -1,5 +1,5 @@
 -- An allocation that the front end does not serve.
-use Rattle.std.proofs.Common.{◌≡◌, ◌⊎◌, ℕ, ◌+◌, ◌/◌, Bool, true, false, List, [], ◌∷◌, ◌++◌, map, Option, Some, None, refl, sym, ap, ◌∙◌, subst, inl, inr, cond}
+use Rattle.std.proofs.Common.{◌≡◌, ℕ, ◌/◌, Bool, true, false, List, [], ◌∷◌, ◌++◌, map, Option, Some, None, refl, sym, ap, ◌∙◌, subst, cond}
 use Rattle.std.specs.Prelude.{option_and_then}
 use Rattle.std.proofs.lemmas.Bool.{and_parts}
 use Rattle.heap_model.specs.declared.Act.{Act}
@@ -16,20 +16,20 @@ use Rattle.heap_model.specs.State.{Setting, IsValidSetting, VsPart, address}
 use Rattle.heap_model.specs.Backend.{numbers}
 use Rattle.heap_model.specs.Stay.{for_some}
 use Rattle.heap_model.specs.CallState.{Configuration}
-use Rattle.heap_model.specs.Search.{sought, sought_by}
+use Rattle.heap_model.specs.Search.{sought_by}
 use Rattle.heap_model.specs.Legal.{may_follow, after, goes_to_lfh}
 use Rattle.heap_model.specs.Alone.{by_zero, configuration_by}
 use Rattle.heap_model.specs.Shape.{shape_of, Allocates, FitsNone, zeroing, zeros, HasActs, Replied}
 use Rattle.one_caller_laws.specs.OneCall.{IsBetween, AreAlike, Answers, IsSameReply, IsForOthers, AllocationIsDetermined}
 use Rattle.one_caller_laws.proofs.Core.{Core, core_of}
 use Rattle.one_caller_laws.proofs.InCall.{InCall, SearchesNone}
-use Rattle.one_caller_laws.proofs.Reach.{Calm, Goes, may_first, to_shown}
+use Rattle.one_caller_laws.proofs.Reach.{Calm, may_first, to_shown}
 use Rattle.one_caller_laws.proofs.Pair.{begun_within, begun_whole, begun_same, goes_from, shown_is}
-use Rattle.one_caller_laws.proofs.Duo.{Duo, DuoAt, duo_at, duo_end, duo_look, duo_swap}
+use Rattle.one_caller_laws.proofs.Duo.{Duo, duo_at, duo_end, duo_look}
 use Rattle.one_caller_laws.proofs.Asks.{same_reply, alike_at}
-use Rattle.one_caller_laws.proofs.Sites.{Site, Why, WhyNot, site_or_none}
+use Rattle.one_caller_laws.proofs.Sites.{WhyNot, site_or_none}
 use Rattle.one_caller_laws.proofs.Makes.{Makes, made}
-use Rattle.one_caller_laws.proofs.Placing.{why_not, to_place, DuoPlaced, duo_placed, DuoStored, duo_zeroed, duo_give}
+use Rattle.one_caller_laws.proofs.Placing.{why_not, to_place, duo_placed, duo_zeroed, duo_give}
 
 -- nothing is searched, where the bucket of the size is neither active nor due
 none_alloc : (s : Setting) (n : ℕ) (flags : Flags) (k : Configuration) → InCall s (calls.Alloc n flags) k → for_some (bucket_of n) (goes_to_lfh k.state.vs) ≡ false → SearchesNone s k
@@ -113,9 +113,10 @@ module _ (s : Setting) (n : ℕ) (flags : Flags) (m : Configuration) (rest : Lis
       let u_is : u ≡ shape_of p.later_too = cc (q, r) in
       let words = zeroed_words flags.zero (a / 8) (words_of n) in
       let zs = zeros_are flags.zero (a / 8) (words_of n) in
-      let g = ap (λ (l : List Act). l ++ acts.Give a n ∷ []) zs in
-      (same_reply reply other (e ∙ ap replies.Address a_is ∙ sym i),
-       alike_at _ _ _ _ p.ends p.ends_too (duo_given s call words a n p.at p.later p.at_too p.later_too p.placed p.duo (sym t_is ∙ g) (sym u_is ∙ ap (λ (c : ℕ). zeroing flags.zero c n ++ acts.Give c n ∷ []) (sym a_is) ∙ g)))
+      let g = ap (λ (l : List Act). l ++ acts.Give a n ∷ []) zs in (
+        same_reply reply other (e ∙ ap replies.Address a_is ∙ sym i),
+        alike_at _ _ _ _ p.ends p.ends_too (duo_given s call words a n p.at p.later p.at_too p.later_too p.placed p.duo (sym t_is ∙ g) (sym u_is ∙ ap (λ (c : ℕ). zeroing flags.zero c n ++ acts.Give c n ∷ []) (sym a_is) ∙ g)),
+      )
   determined (IsAt a start granules layer e f h) (IsRefused i k) =
       let x = place_in start granules layer _ h in
       absurd (site_or_none s (core_of m) n x.site x.why (subst (λ (c : Core). WhyNot s c n) (sym d.core) (refused_too k)))

@@ -1,27 +1,22 @@
 -- A question for a size, a word that is read or written.
-use Rattle.std.proofs.Common.{◌≡◌, ◌⊎◌, ℕ, ◌+◌, ◌/◌, ◌<◌, ◌≤◌, true, false, List, [], ◌∷◌, Option, Some, None, refl, sym, ap, ◌∙◌, subst, inl, inr, arith}
+use Rattle.std.proofs.Common.{◌≡◌, ℕ, false, List, [], ◌∷◌, None, refl, sym, ap, ◌∙◌, subst}
 use Rattle.heap_model.specs.declared.Act.{Act}
 use Rattle.heap_model.specs.declared.Act.TheVariants as acts
 use Rattle.heap_model.specs.declared.Call.{Call}
 use Rattle.heap_model.specs.declared.Call.TheVariants as calls
 use Rattle.heap_model.specs.declared.Reply.{Reply}
 use Rattle.heap_model.specs.declared.Reply.TheVariants as replies
-use Rattle.heap_model.specs.Geometry.{words_of}
-use Rattle.heap_model.specs.State.{Setting, IsValidSetting, updated}
-use Rattle.heap_model.specs.CallState.{Configuration, caller_view, Nothing}
+use Rattle.heap_model.specs.State.{Setting, IsValidSetting}
+use Rattle.heap_model.specs.CallState.{Configuration}
 use Rattle.heap_model.specs.Search.{sought_by}
-use Rattle.heap_model.specs.Legal.{may_follow, after, is_compact, data_words}
+use Rattle.heap_model.specs.Legal.{may_follow, after, is_compact}
 use Rattle.heap_model.specs.Alone.{by_zero, configuration_by}
-use Rattle.heap_model.specs.Moments.{moments_by}
-use Rattle.heap_model.specs.Shape.{shape_of, shown, Sizes, FindsNone, Gets, Puts, IsPast, HasActs, Replied}
-use Rattle.std.proofs.lemmas.Bool.{and_parts, eqb-true}
-use Rattle.heap_model.proofs.GateSound.{row_of}
+use Rattle.heap_model.specs.Shape.{shape_of, Sizes, FindsNone, HasActs, Replied}
+use Rattle.std.proofs.lemmas.Bool.{and_parts}
 use Rattle.one_caller_laws.specs.OneCall.{IsBetween, AreAlike, Answers, IsDetermined, IsSameReply}
-use Rattle.one_caller_laws.proofs.Core.{Core, core_of, hints_of}
-use Rattle.one_caller_laws.proofs.InCall.{InCall, IsWhole}
-use Rattle.one_caller_laws.proofs.Reach.{Calm, Goes, goes_after, may_first, is_place}
-use Rattle.one_caller_laws.proofs.Pair.{begun_within, begun_whole, begun_same, goes_from, shown_is, none_asked, within_next, HintsAlike, sized_finds}
-use Rattle.one_caller_laws.proofs.Duo.{Duo, DuoAt, duo_at, duo_end, duo_look, duo_size, duo_swap, duo_clash, hints_at}
+use Rattle.one_caller_laws.proofs.Reach.{Calm, may_first}
+use Rattle.one_caller_laws.proofs.Pair.{begun_within, begun_whole, begun_same, goes_from, shown_is, none_asked, sized_finds}
+use Rattle.one_caller_laws.proofs.Duo.{Duo, duo_at, duo_end, duo_look, duo_size, duo_swap, duo_clash}
 
 ---- The start of two calls
 

@@ -1,32 +1,31 @@
 -- Behind the last place that goes, the spans that have none left go, and nothing else changes.
-use Rattle.std.proofs.Common.{◌≡◌, ◌⊎◌, ℕ, Bool, true, false, ◌&&◌, not, cond, List, [], ◌∷◌, Option, Some, None, refl, sym, ap, ◌∙◌, subst, inl, inr}
+use Rattle.std.proofs.Common.{◌≡◌, ◌⊎◌, ℕ, Bool, true, false, ◌&&◌, not, cond, List, [], ◌∷◌, Option, Some, refl, sym, ap, ◌∙◌, subst, inl, inr}
 use Rattle.std.specs.Prelude.{filter}
-use Rattle.std.specs.List.{find, list_all, AllByRecursion}
-use Rattle.std.proofs.lemmas.Bool.{cases_Bool, and_parts, both_ways, false≢true, true≢false, not-true}
+use Rattle.std.specs.List.{find}
+use Rattle.std.proofs.lemmas.Bool.{cases_Bool, and_parts, both_ways, false≢true, not-true}
 use Rattle.heap_model.specs.declared.Act.{Act}
 use Rattle.heap_model.specs.declared.Act.TheVariants as acts
 use Rattle.heap_model.specs.declared.Call.{Call}
 use Rattle.heap_model.specs.declared.Kind.{Kind}
 use Rattle.heap_model.specs.declared.Kind.TheVariants as kinds
 use Rattle.heap_model.specs.declared.What.TheVariants as whats
-use Rattle.heap_model.specs.State.{Setting, Area, Span, is_kind, remove_found}
+use Rattle.heap_model.specs.State.{Setting, Span, is_kind, remove_found}
 use Rattle.heap_model.specs.Ranges.{is_of_kind}
 use Rattle.heap_model.specs.Stay.{for_some, is_some_of}
 use Rattle.heap_model.specs.CallState.{Configuration, caller_view}
-use Rattle.heap_model.specs.Search.{hint, hint_or, first_of, spans_of, is_span_of, span_at, begins_at}
+use Rattle.heap_model.specs.Search.{hint, hint_or, first_of, is_span_of, span_at, begins_at}
 use Rattle.heap_model.specs.Legal.{may_follow, after, is_begin, is_compact, has_place, may_unspan_of, is_unused, places_in, forget_hint}
 use Rattle.heap_model.specs.Alone.{by_zero, configuration_by}
-use Rattle.heap_model.specs.Shape.{is_left_out, shape_of}
+use Rattle.heap_model.specs.Shape.{shape_of}
 use Rattle.heap_model.proofs.GateSound.{row_of, none_held}
 use Rattle.heap_model.proofs.ListLemmas.{for_some_parts, is_some_of_parts, filter-remove_found}
 use Rattle.heap_soundness.specs.Sound.{IsOneOf, IsSoundSpan}
-use Rattle.heap_soundness.proofs.Enums.{kind_is}
-use Rattle.heap_soundness.proofs.Lists.{found_in, all_at}
+use Rattle.heap_soundness.proofs.Lists.{all_at}
 use Rattle.heap_soundness.proofs.GapRuns.{in_filtered}
 use Rattle.search_laws.proofs.Passes.{found_there}
 use Rattle.search_laws.proofs.Filtered.{all_kept}
-use Rattle.one_caller_laws.proofs.Core.{Core, core_of, hints_of}
-use Rattle.one_caller_laws.proofs.InCall.{InCall, in_call_after, is_quiet, quiet_core, quiet_hints, quiet_left_out, SearchesNone, shows_or_ends, is_shown, each_passes}
+use Rattle.one_caller_laws.proofs.Core.{Core, core_of}
+use Rattle.one_caller_laws.proofs.InCall.{InCall, in_call_after, is_quiet, quiet_core, quiet_hints, quiet_left_out, SearchesNone, shows_or_ends, each_passes}
 use Rattle.one_caller_laws.proofs.Reach.{Goes, goes_after, may_first, no_begin, shown_place, shown_cases}
 use Rattle.one_caller_laws.proofs.Duo.{hints_at}
 
@@ -88,9 +87,9 @@ pub hint_stays : (s : Setting) (call : Call) (m : Configuration) (first : ℕ) �
 hint_stays s call m first w u b t =
     let front = not_front u.span u.kind in
     let spans = filter-remove_found (is_span_of b t) (begins_at first) m.state.back.area.spans (λ y f.
-        let g : Some u.span ≡ Some y = sym u.found ∙ f in
-        let same : u.span ≡ y = cc in
-        subst (λ (z : Span). is_span_of b t z ≡ false) same (rw front refl)) in
+    let g : Some u.span ≡ Some y = sym u.found ∙ f in
+    let same : u.span ≡ y = cc in
+    subst (λ (z : Span). is_span_of b t z ≡ false) same (rw front refl)) in
     λ i. hint_or (kept i) (first_of (spans i))
   where
     kept : forget_hint first m.now.span_history.hints b t ≡ m.now.span_history.hints b t

@@ -1,5 +1,5 @@
 -- What of a configuration decides how the call of caller 0 goes on, whatever locks it holds.
-use Rattle.std.proofs.Common.{◌≡◌, ℕ, ◌+◌, ◌*◌, ◌/◌, ◌-◌, Bool, true, false, ◌&&◌, ◌||◌, not, cond, List, ◌++◌, Option, Some, None, refl, sym, ap, ◌∙◌, leb}
+use Rattle.std.proofs.Common.{◌≡◌, ℕ, ◌+◌, ◌*◌, ◌/◌, ◌-◌, Bool, ◌&&◌, ◌||◌, not, cond, List, ◌++◌, Option, Some, None, refl, sym, ap, ◌∙◌, leb}
 use Rattle.std.specs.Prelude.{option_and_then}
 use Rattle.std.specs.List.{find}
 use Rattle.heap_model.specs.declared.Call.{Call}
@@ -8,11 +8,11 @@ use Rattle.heap_model.specs.declared.Layer.{Layer}
 use Rattle.heap_model.specs.declared.Layer.TheVariants as layers
 use Rattle.heap_model.specs.declared.Limits.{Limits}
 use Rattle.heap_model.specs.Geometry.{route_of, is_paged, is_huge, units_of, pages_of}
-use Rattle.heap_model.specs.State.{Setting, State, BackPart, VsPart, Place, place_at, has_address, all_places, is_live, is_in_hand_of}
+use Rattle.heap_model.specs.State.{Setting, State, BackPart, VsPart, Place, place_at, has_address, is_live, is_in_hand_of}
 use Rattle.heap_model.specs.Ranges.{gaps_of, vs_spans, large_runs}
 use Rattle.heap_model.specs.Stay.{for_some, lets_stay, run_from, reach_back}
-use Rattle.heap_model.specs.CallState.{CallState, Search, Configuration}
-use Rattle.heap_model.specs.Search.{Request, request_for, request_of, sought, sought_by, has_to_move}
+use Rattle.heap_model.specs.CallState.{Search, Configuration}
+use Rattle.heap_model.specs.Search.{request_for, request_of, sought, sought_by, has_to_move}
 use Rattle.heap_soundness.specs.Invariant.{Keeps}
 use Rattle.heap_soundness.proofs.Addresses.{place_among_all}
 

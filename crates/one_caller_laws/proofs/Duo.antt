@@ -1,19 +1,17 @@
 -- Two calls of caller 0 alone that search nothing, from act to act that both show.
-use Rattle.std.proofs.Common.{◌≡◌, ℕ, true, false, List, [], ◌∷◌, Option, refl, sym, ap, ◌∙◌, subst}
-use Rattle.std.proofs.lemmas.Bool.{false≢true}
+use Rattle.std.proofs.Common.{◌≡◌, ℕ, true, false, List, [], ◌∷◌, sym, ◌∙◌}
 use Rattle.heap_model.specs.declared.Act.{Act}
 use Rattle.heap_model.specs.declared.Act.TheVariants as acts
 use Rattle.heap_model.specs.declared.Call.{Call}
 use Rattle.heap_model.specs.State.{Setting}
 use Rattle.heap_model.specs.CallState.{Configuration}
-use Rattle.heap_model.specs.Search.{hint, hint_or, first_of, spans_of}
-use Rattle.heap_model.specs.Legal.{may_follow, after}
+use Rattle.heap_model.specs.Search.{hint_or, first_of, spans_of}
+use Rattle.heap_model.specs.Legal.{after}
 use Rattle.heap_model.specs.Alone.{by_zero, configuration_by}
 use Rattle.heap_model.specs.Shape.{shape_of}
 use Rattle.one_caller_laws.specs.OneCall.{AreAlike}
-use Rattle.one_caller_laws.proofs.Core.{Core, core_of, hints_of}
-use Rattle.one_caller_laws.proofs.InCall.{InCall, Ended}
-use Rattle.one_caller_laws.proofs.Reach.{Calm, Goes, Reaches, to_shown, to_end, is_place, goes_after, may_first}
+use Rattle.one_caller_laws.proofs.Core.{core_of, hints_of}
+use Rattle.one_caller_laws.proofs.Reach.{Calm, Goes, to_shown, to_end, is_place, goes_after, may_first}
 use Rattle.one_caller_laws.proofs.Pair.{HintsAlike, ends_alike, is_look, look_core, look_hints, calm_look, one_size, never_both, sized_finds, IsFoundLive}
 
 -- two that have come equally far

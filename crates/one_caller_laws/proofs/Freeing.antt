@@ -10,22 +10,21 @@ use Rattle.heap_model.specs.declared.Layer.{Layer}
 use Rattle.heap_model.specs.declared.Layer.TheVariants as layers
 use Rattle.heap_model.specs.declared.Reply.{Reply}
 use Rattle.heap_model.specs.declared.Reply.TheVariants as replies
-use Rattle.heap_model.specs.State.{Setting, Place, Status, Live, InHand, in_hand, has_address, place_at, is_live_at, is_hand_at, change_found, remove_found}
+use Rattle.heap_model.specs.State.{Setting, Place, Status, InHand, in_hand, has_address, place_at, is_live_at, is_hand_at, change_found, remove_found}
 use Rattle.heap_model.specs.CallState.{Configuration}
-use Rattle.heap_model.specs.Search.{sought_by}
 use Rattle.heap_model.specs.Legal.{after, layer_of, on, with_status}
 use Rattle.heap_model.specs.Alone.{by_zero, configuration_by}
 use Rattle.heap_model.specs.Shape.{shape_of, Frees, HasActs, Replied}
-use Rattle.one_caller_laws.specs.OneCall.{IsBetween, AreAlike, Answers, IsDetermined, IsSameReply}
+use Rattle.one_caller_laws.specs.OneCall.{AreAlike, IsDetermined, IsSameReply}
 use Rattle.one_caller_laws.proofs.Whole.{used_on}
 use Rattle.one_caller_laws.proofs.Core.{Core, core_of, same_place}
 use Rattle.one_caller_laws.proofs.InCall.{InCall, IsWhole, SearchesNone}
 use Rattle.one_caller_laws.proofs.Reach.{goes_after, may_first}
 use Rattle.one_caller_laws.proofs.Pair.{shown_is, none_asked, within_next, take_finds, one_size, ends_alike}
-use Rattle.one_caller_laws.proofs.Duo.{Duo, DuoAt, duo_at, duo_swap, duo_clash}
+use Rattle.one_caller_laws.proofs.Duo.{Duo, duo_at, duo_swap, duo_clash}
 use Rattle.one_caller_laws.proofs.Asks.{duo_begun, none_is, duo_none, same_reply, alike_at}
 use Rattle.one_caller_laws.proofs.Words.{duo_step}
-use Rattle.one_caller_laws.proofs.Closing.{closed, Closes, closes}
+use Rattle.one_caller_laws.proofs.Closing.{closed, closes}
 
 -- places of one layer changed
 abbrev pub changed_core : Core → Option Layer → (List Place → List Place) → Core
@@ -104,7 +103,7 @@ module _ (a : ℕ) (s : Setting) where
       let k = after s x.at (by_zero (acts.Take a p)) in
       let l = after s x.at_too (by_zero (acts.Take a p)) in
       let d3 = duo_take s call x.at a p x.later x.at_too x.later_too d2
-          (none k (within_next s call x.at (acts.Take a p) x.later d2.calm.within d2.goes)) (none l (within_next s call x.at_too (acts.Take a p) x.later_too d2.calm_too.within d2.goes_too)) in
+      (none k (within_next s call x.at (acts.Take a p) x.later d2.calm.within d2.goes)) (none l (within_next s call x.at_too (acts.Take a p) x.later_too d2.calm_too.within d2.goes_too)) in
       let y = duo_at s call k x.later l x.later_too (acts.Drop a) [] (acts.Drop a) [] d3 x.shape x.shape_too refl refl in
       alike_at _ _ _ _ (x.ends ∙ y.ends) (ends_too ∙ y.ends_too) (duo_drop s call y.at a y.later y.at_too y.later_too y.duo none y.shape y.shape_too)
 

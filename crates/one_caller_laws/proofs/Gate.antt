@@ -1,15 +1,13 @@
 -- The gate and the locks where caller 0 alone has come.
-use Rattle.std.proofs.Common.{◌≡◌, ℕ, ◌+◌, ◌*◌, Bool, true, false, ◌&&◌, not, cond, List, [], ◌∷◌, length, Option, Some, None, refl, sym, ap, ◌∙◌, subst, arith, eqb, inl, inr}
+use Rattle.std.proofs.Common.{◌≡◌, ℕ, ◌+◌, ◌*◌, Bool, true, false, ◌&&◌, not, cond, List, [], ◌∷◌, Option, Some, None, refl, ap, eqb, inl, inr}
 use Rattle.std.specs.List.{AllByRecursion}
-use Rattle.std.proofs.lemmas.Bool.{cases_Bool, and_parts, not-true, not-false, eqb-true, eq-eqb, false≢true, true≢false, both_ways, not_from_true}
+use Rattle.std.proofs.lemmas.Bool.{cases_Bool, and_parts, not-true, not-false, eqb-true, eq-eqb, false≢true, true≢false, both_ways}
 use Rattle.heap_model.specs.declared.Act.{Act}
 use Rattle.heap_model.specs.declared.Act.TheVariants as acts
-use Rattle.heap_model.specs.declared.Call.{Call}
 use Rattle.heap_model.specs.declared.What.{What}
 use Rattle.heap_model.specs.declared.What.TheVariants as whats
 use Rattle.heap_model.specs.State.{Setting, GateAndLocks, Locks, is_among, without, is_caller, is_another, is_entered, holds, holder_of, put_holder, gate_word, caller_word, open_locks}
-use Rattle.heap_model.specs.Stay.{for_some}
-use Rattle.heap_model.specs.CallState.{Configuration, CallerView, caller_view, is_outside, holds_none}
+use Rattle.heap_model.specs.CallState.{Configuration, caller_view, is_outside, holds_none}
 use Rattle.heap_model.specs.Legal.{may, may_follow, after, state_after, may_be_blocked, is_lock_or_compact}
 use Rattle.heap_model.specs.History.{first_configuration}
 use Rattle.heap_model.specs.Alone.{by_zero, configuration_by, may_all_come}
@@ -23,7 +21,7 @@ pub record IsZeroGate (f : GateAndLocks) : Type 0 where
   pub owner : is_another 0 f.owner ≡ false
   pub holders : (w : What) → is_another 0 (holder_of f.locks w) ≡ false
 
-no_other : (o : Option ℕ) → is_another 0 o ≡ false → is_caller 0 o ≡ false → o ≡ None
+pub no_other : (o : Option ℕ) → is_another 0 o ≡ false → is_caller 0 o ≡ false → o ≡ None
 no_other None a b = refl
 no_other (Some d) a b = absurd (both_ways (eqb d 0) b (not-false (eqb d 0) a))
 

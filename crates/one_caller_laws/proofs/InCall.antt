@@ -1,22 +1,20 @@
 -- Caller 0 alone within a call: what its acts at the gate and at locks leave, and the next act that is another.
-use Rattle.std.proofs.Common.{◌≡◌, ◌⊎◌, ℕ, ◌+◌, Bool, true, false, ◌&&◌, ◌||◌, not, cond, List, [], ◌∷◌, map, Option, Some, None, refl, sym, ap, ◌∙◌, subst, arith, eqb, inl, inr}
-use Rattle.std.specs.Prelude.{filter, is_some}
-use Rattle.std.specs.List.{find, list_all, list_any}
-use Rattle.std.proofs.lemmas.Bool.{cases_Bool, and_parts, or_parts, both_ways, false≢true, true≢false, not-true, not_from_true, not_from_false, eqb-true}
+use Rattle.std.proofs.Common.{◌≡◌, ◌⊎◌, ℕ, Bool, true, false, ◌&&◌, not, cond, List, [], ◌∷◌, Option, Some, None, refl, sym, ap, ◌∙◌, subst, inl, inr}
+use Rattle.std.specs.Prelude.{filter}
+use Rattle.std.specs.List.{list_all}
+use Rattle.std.proofs.lemmas.Bool.{cases_Bool, and_parts, or_parts, both_ways, false≢true, true≢false, not-true}
 use Rattle.heap_model.specs.declared.Act.{Act}
 use Rattle.heap_model.specs.declared.Act.TheVariants as acts
 use Rattle.heap_model.specs.declared.Call.{Call}
 use Rattle.heap_model.specs.declared.Kind.{Kind}
 use Rattle.heap_model.specs.declared.Kind.TheVariants as kinds
-use Rattle.heap_model.specs.declared.What.{What}
 use Rattle.heap_model.specs.declared.What.TheVariants as whats
-use Rattle.heap_model.specs.State.{Setting, IsValidSetting, VsPart, Span, is_kind, updated}
+use Rattle.heap_model.specs.State.{Setting, IsValidSetting, VsPart, Span, is_kind}
 use Rattle.heap_model.specs.Stay.{for_some, is_due}
 use Rattle.heap_model.specs.Ranges.{is_of_kind}
-use Rattle.heap_model.specs.CallState.{CallState, CallerView, Configuration, Demand, Nothing, SpanBy, PlaceBy, UnspanBy, caller_view, is_inside}
+use Rattle.heap_model.specs.CallState.{CallerView, Configuration, Nothing, caller_view}
 use Rattle.heap_model.specs.Search.{Request, request_of, searched, span_at}
-use Rattle.heap_model.specs.Legal.{may, may_follow, after, call_after, disturbed_after, is_begin, is_compact, goes_to_lfh, searches, has_place, places_in, may_unspan_of, is_unused, are_used}
-use Rattle.heap_model.specs.History.{first_configuration}
+use Rattle.heap_model.specs.Legal.{may, may_follow, after, disturbed_after, is_begin, is_compact, goes_to_lfh, searches, has_place, places_in, may_unspan_of, is_unused, are_used}
 use Rattle.heap_model.specs.Alone.{by_zero, configuration_by, may_all_come}
 use Rattle.heap_model.specs.Shape.{is_left_out, shape_of}
 use Rattle.heap_model.proofs.GateSound.{row_of}

@@ -15,3 +15,9 @@ pub mod Makes
 pub mod Spans
 pub mod Placing
 pub mod Allocs
+pub mod Counted
+pub mod Compacting
+pub mod Compact
+pub mod Runs
+pub mod Others
+pub mod WorkedPairs

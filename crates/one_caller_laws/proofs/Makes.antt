@@ -1,8 +1,7 @@
 -- How a place is made outside the front end: what its acts say of the heap, and what they leave.
-use Rattle.std.proofs.Common.{◌≡◌, ◌⊎◌, ℕ, ◌+◌, ◌*◌, ◌/◌, ◌<◌, ◌≤◌, Bool, true, false, ◌&&◌, ◌||◌, not, cond, List, [], ◌∷◌, ◌++◌, Option, Some, None, refl, sym, ap, ◌∙◌, subst, inl, inr, arith, eqb, leb}
-use Rattle.std.specs.Prelude.{filter, is_none, option_and_then}
-use Rattle.std.specs.List.{find, list_all, list_any}
-use Rattle.std.proofs.lemmas.Bool.{cases_Bool, and_parts, and_from, both_ways, false≢true, true≢false, not-true, eqb-true, leb-true, ltb-true, or_left, or_right}
+use Rattle.std.proofs.Common.{◌≡◌, ℕ, ◌*◌, Bool, true, false, ◌&&◌, ◌||◌, cond, List, ◌∷◌, Option, Some, None, refl, sym, ap, ◌∙◌, inl, inr, eqb}
+use Rattle.std.specs.Prelude.{option_and_then}
+use Rattle.std.proofs.lemmas.Bool.{cases_Bool, and_parts, eqb-true, or_right}
 use Rattle.heap_model.specs.declared.Act.{Act}
 use Rattle.heap_model.specs.declared.Act.TheVariants as acts
 use Rattle.heap_model.specs.declared.Call.{Call}
@@ -11,31 +10,25 @@ use Rattle.heap_model.specs.declared.Kind.{Kind}
 use Rattle.heap_model.specs.declared.Kind.TheVariants as kinds
 use Rattle.heap_model.specs.declared.Layer.{Layer}
 use Rattle.heap_model.specs.declared.Layer.TheVariants as layers
-use Rattle.heap_model.specs.Geometry.{route_of, is_small, is_variable, is_paged, is_huge, units_of, span_pages_of, pages_of}
+use Rattle.heap_model.specs.Geometry.{route_of, is_small, is_variable, is_huge, units_of, pages_of}
 use Rattle.heap_model.specs.Buckets.{bucket_of}
 use Rattle.heap_model.specs.Runs.{Run}
-use Rattle.heap_model.specs.State.{Setting, Area, Span, Place, InHand, is_kind, is_layer, add_place, insert_span}
-use Rattle.heap_model.specs.Backend.{back_place}
-use Rattle.heap_model.specs.Ranges.{gaps, gaps_of, vs_spans, vs_place, large_place, is_of_kind}
+use Rattle.heap_model.specs.State.{Setting, Area, Place, InHand, is_layer, add_place}
+use Rattle.heap_model.specs.Ranges.{gaps, vs_place, large_place, is_of_kind}
 use Rattle.heap_model.specs.Stay.{for_some, is_some_of}
-use Rattle.heap_model.specs.CallState.{CallerView, Configuration, Nothing, SpanBy, PlaceBy, caller_view}
-use Rattle.heap_model.specs.Search.{Request, request_of, asked, asked_by, sought, sought_by, hint, hint_or, first_of, spans_of, is_span_of}
-use Rattle.heap_model.specs.Legal.{may_follow, after, lies_in, has_place, are_used, is_vs_place, is_layer_of, meets_place, meets_span, may_span_for, with_span, served_by, on, fits_none, has_no_vs_range, has_no_range, is_back_due, may_place_small}
+use Rattle.heap_model.specs.CallState.{Configuration, Nothing, caller_view}
+use Rattle.heap_model.specs.Search.{request_of, asked, asked_by, sought, sought_by, hint, hint_or, first_of, spans_of}
+use Rattle.heap_model.specs.Legal.{may_follow, after, lies_in, has_place, are_used, is_vs_place, served_by, on, may_place_small}
 use Rattle.heap_model.specs.Alone.{by_zero, configuration_by}
 use Rattle.heap_model.specs.Shape.{shape_of}
 use Rattle.heap_model.proofs.GateSound.{row_of}
-use Rattle.heap_model.proofs.ListLemmas.{for_some_parts, is_some_of_parts, filter-insert_span}
-use Rattle.heap_soundness.proofs.RowLemmas.{span_row, SpanRow}
-use Rattle.heap_soundness.proofs.Enums.{kind_is}
-use Rattle.serial_laws.specs.BackCalls.{one_more_reserved, block_span}
-use Rattle.serial_laws.specs.VsCalls.{vs_span_for}
-use Rattle.serial_laws.proofs.Places.{all_weaker, all_inserted}
+use Rattle.heap_model.proofs.ListLemmas.{for_some_parts, is_some_of_parts}
+use Rattle.serial_laws.proofs.Places.{all_weaker}
 use Rattle.one_caller_laws.proofs.Core.{Core, core_of, hints_of}
-use Rattle.one_caller_laws.proofs.InCall.{InCall, in_call_after, IsWhole}
-use Rattle.one_caller_laws.proofs.Reach.{Goes, goes_after, may_first, no_begin, place_follows, span_follows}
+use Rattle.one_caller_laws.proofs.InCall.{InCall, IsWhole}
+use Rattle.one_caller_laws.proofs.Reach.{Goes, goes_after, may_first}
 use Rattle.one_caller_laws.proofs.Pair.{within_next}
-use Rattle.one_caller_laws.proofs.Ways.{Spot, Way, Here, Next, Nowhere}
-use Rattle.one_caller_laws.proofs.Sites.{Site, is_for_vs, gaps_in_core, vs_site, span_site, pages_site, Why, Gap, Fresh, Pages, Large}
+use Rattle.one_caller_laws.proofs.Sites.{Site, is_for_vs, Why, Gap, Large}
 
 -- the core with a place in hand
 abbrev pub made : ℕ → ℕ → Layer → Place

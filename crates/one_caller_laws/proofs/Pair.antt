@@ -1,45 +1,38 @@
 -- Two calls of caller 0 alone, side by side: what the same act does to both.
-use Rattle.std.proofs.Common.{◌≡◌, ◌⊎◌, ℕ, ◌+◌, Bool, true, false, ◌&&◌, ◌||◌, not, cond, List, [], ◌∷◌, ◌++◌, Option, Some, None, refl, sym, ap, ◌∙◌, subst, inl, inr, arith, eqb}
+use Rattle.std.proofs.Common.{◌≡◌, ℕ, ◌+◌, Bool, true, false, ◌&&◌, ◌||◌, not, cond, List, [], ◌∷◌, ◌++◌, Option, Some, None, refl, sym, ap, ◌∙◌, subst, inl, inr, eqb}
 use Rattle.std.specs.Prelude.{option_and_then, map}
-use Rattle.std.specs.List.{find, list_all, list_any}
-use Rattle.std.proofs.lemmas.Bool.{cases_Bool, and_parts, both_ways, false≢true, true≢false, not-true, or_left, or_right, eqb-true, eq-eqb}
+use Rattle.std.specs.List.{list_any}
+use Rattle.std.proofs.lemmas.Bool.{and_parts, both_ways, false≢true, not-true, eqb-true}
 use Rattle.heap_model.specs.declared.Act.{Act}
 use Rattle.heap_model.specs.declared.Act.TheVariants as acts
 use Rattle.heap_model.specs.declared.Call.{Call}
-use Rattle.heap_model.specs.declared.Call.TheVariants as calls
-use Rattle.heap_model.specs.declared.Kind.TheVariants as kinds
-use Rattle.heap_model.specs.declared.Layer.{Layer}
-use Rattle.heap_model.specs.declared.Layer.TheVariants as layers
 use Rattle.heap_model.specs.declared.Reply.{Reply}
 use Rattle.heap_model.specs.declared.What.TheVariants as whats
 use Rattle.heap_model.specs.Buckets.{bucket_of}
-use Rattle.heap_model.specs.State.{Setting, IsValidSetting, State, GateAndLocks, Place, Status, Live, InHand, open_locks, holds, is_among, is_live, is_live_of, is_live_at, is_hand_at, has_address, place_at, hand_at, hands, in_hand, all_places, change_found, remove_found, updated}
+use Rattle.heap_model.specs.State.{Setting, IsValidSetting, Place, Status, Live, InHand, open_locks, is_among, is_live, is_live_of, is_live_at, has_address, place_at, all_places}
 use Rattle.heap_model.specs.Stay.{for_some}
-use Rattle.heap_model.specs.CallState.{CallState, CallerView, Configuration, Nothing, not_begun, caller_view, holds_none}
+use Rattle.heap_model.specs.CallState.{Configuration, Nothing, not_begun, caller_view}
 use Rattle.heap_model.specs.Search.{sought, sought_by, hint}
-use Rattle.heap_model.specs.Legal.{may, may_follow, after, call_after, is_begin, is_compact, goes_to_lfh, searched_once, with_status, layer_of, on, has_live, may_touch, may_be_sized, may_take, may_not_be_live, are_used, is_empty}
+use Rattle.heap_model.specs.Legal.{may_follow, after, goes_to_lfh, searched_once, has_live, may_touch}
 use Rattle.heap_model.specs.History.{first_configuration, configuration_of}
-use Rattle.heap_model.specs.Alone.{by_zero, configuration_by, may_all_come}
-use Rattle.heap_model.specs.Moments.{moments_by, acts_of}
+use Rattle.heap_model.specs.Alone.{by_zero}
+use Rattle.heap_model.specs.Moments.{moments_by}
 use Rattle.heap_model.specs.Shape.{shape_of, shown}
-use Rattle.heap_model.specs.Served.{IsOneCall, GetsReply}
+use Rattle.heap_model.specs.Served.{IsOneCall}
 use Rattle.heap_model.specs.Serial.{IsIdle}
 use Rattle.heap_model.proofs.GateSound.{row_of, none_held}
 use Rattle.heap_model.proofs.Moments.{acts_by}
 use Rattle.heap_model.proofs.ListLemmas.{for_some_parts}
 use Rattle.heap_soundness.specs.Invariant.{Keeps}
-use Rattle.heap_soundness.specs.Sound.{IsOneOf}
 use Rattle.heap_soundness.proofs.Kept.{keeps_after, keeps_all}
 use Rattle.heap_soundness.proofs.Addresses.{place_among_all}
 use Rattle.heap_soundness.proofs.Lists.{found_in, found_passes, any_in}
-use Rattle.heap_soundness.proofs.GapRuns.{in_filtered}
-use Rattle.serial_laws.specs.OneCall.{searches_of}
 use Rattle.serial_laws.proofs.Turns.{come_follow, come_to}
 use Rattle.one_caller_laws.specs.OneCall.{IsBetween, AreAlike, Answers}
 use Rattle.one_caller_laws.proofs.Gate.{IsZeroGate, zero_after, zero_from_first, idle_gate, outside_is}
-use Rattle.one_caller_laws.proofs.Whole.{IsGuarded, guarded_act, guarded_from_first, used_on}
+use Rattle.one_caller_laws.proofs.Whole.{IsGuarded, guarded_act, guarded_from_first}
 use Rattle.one_caller_laws.proofs.Core.{Core, core_of, hints_of, places_in_core, same_place}
-use Rattle.one_caller_laws.proofs.InCall.{InCall, in_call_after, begins_none, IsWhole, SearchesNone}
+use Rattle.one_caller_laws.proofs.InCall.{InCall, in_call_after, IsWhole, SearchesNone}
 use Rattle.one_caller_laws.proofs.Reach.{Calm, Goes, calm_at, may_first, no_begin}
 
 ---- The Begin

@@ -1,8 +1,8 @@
 -- The place of a block that the front end does not serve, and its refusal, in both of two calls.
-use Rattle.std.proofs.Common.{◌≡◌, ◌⊎◌, ℕ, ◌+◌, ◌*◌, ◌/◌, ◌<◌, Bool, true, false, ◌&&◌, ◌||◌, not, List, [], ◌∷◌, ◌++◌, map, Option, Some, None, refl, sym, ap, ◌∙◌, subst, inl, inr, eqb}
+use Rattle.std.proofs.Common.{◌≡◌, ℕ, true, false, ◌&&◌, not, List, [], ◌∷◌, ◌++◌, map, Option, Some, None, refl, sym, ap, ◌∙◌, subst, inl, inr}
 use Rattle.std.specs.Prelude.{is_none}
 use Rattle.std.specs.List.{list_any}
-use Rattle.std.proofs.lemmas.Bool.{cases_Bool, and_parts, false≢true, true≢false, eqb-true}
+use Rattle.std.proofs.lemmas.Bool.{and_parts, false≢true}
 use Rattle.heap_model.specs.declared.Act.{Act}
 use Rattle.heap_model.specs.declared.Act.TheVariants as acts
 use Rattle.heap_model.specs.declared.Call.{Call}
@@ -10,30 +10,28 @@ use Rattle.heap_model.specs.declared.Kind.{Kind}
 use Rattle.heap_model.specs.declared.Kind.TheVariants as kinds
 use Rattle.heap_model.specs.declared.Layer.{Layer}
 use Rattle.heap_model.specs.declared.Layer.TheVariants as layers
-use Rattle.heap_model.specs.Geometry.{Route, Small, Variable, Paged, Huge, route_of, is_small, is_variable, is_paged, is_huge, units_of, span_pages_of, pages_of}
-use Rattle.heap_model.specs.Buckets.{bucket_of}
+use Rattle.heap_model.specs.Geometry.{Route, Small, Variable, Paged, Huge, route_of, units_of, span_pages_of, pages_of}
 use Rattle.heap_model.specs.State.{Setting, Live, is_kind, is_hand_at, change_found, updated}
-use Rattle.heap_model.specs.Backend.{back_place}
 use Rattle.heap_model.specs.Ranges.{gaps, vs_place, large_place}
 use Rattle.heap_model.specs.Stay.{for_some, is_some_of}
 use Rattle.heap_model.specs.CallState.{Configuration, caller_view}
 use Rattle.heap_model.specs.Search.{request_of, asked, asked_by, spans_of}
 use Rattle.heap_model.specs.Bits.{starts_at}
-use Rattle.heap_model.specs.Legal.{may_follow, after, is_back_due, is_picked_in, fits_none, has_no_range, has_no_vs_range, may_span_for, layer_of, with_status, is_compact}
+use Rattle.heap_model.specs.Legal.{may_follow, after, is_back_due, is_picked_in, fits_none, has_no_range, has_no_vs_range, layer_of, with_status, is_compact}
 use Rattle.heap_model.specs.Alone.{by_zero, configuration_by}
-use Rattle.heap_model.specs.Shape.{shape_of, is_left_out, zeros}
+use Rattle.heap_model.specs.Shape.{shape_of, is_left_out}
 use Rattle.heap_model.proofs.GateSound.{row_of}
 use Rattle.heap_model.proofs.ListLemmas.{is_some_of_parts}
 use Rattle.heap_soundness.proofs.RowLemmas.{span_row}
 use Rattle.one_caller_laws.proofs.Core.{Core, core_of}
-use Rattle.one_caller_laws.proofs.InCall.{InCall, Stop, IsWhole, SearchesNone, none_searched, shows}
-use Rattle.one_caller_laws.proofs.Reach.{Calm, Goes, goes_after, may_first, to_stop, stop_calm, stop_goes, is_place, is_maker, shown_cases}
+use Rattle.one_caller_laws.proofs.InCall.{InCall, Stop, SearchesNone, none_searched, shows}
+use Rattle.one_caller_laws.proofs.Reach.{Calm, Goes, goes_after, may_first, to_stop, stop_calm, stop_goes, is_maker, shown_cases}
 use Rattle.one_caller_laws.proofs.Pair.{within_next, none_placed, HintsAlike}
-use Rattle.one_caller_laws.proofs.Duo.{Duo, DuoAt, duo_at, hints_at}
+use Rattle.one_caller_laws.proofs.Duo.{Duo, duo_at, hints_at}
 use Rattle.one_caller_laws.proofs.Words.{duo_step}
 use Rattle.one_caller_laws.proofs.Freeing.{changed_core, hand_of, whole_restatused}
-use Rattle.one_caller_laws.proofs.Ways.{Way, Nowhere}
-use Rattle.one_caller_laws.proofs.Sites.{Site, is_for_vs, Why, WhyNot, NoGap, NoPages, NoLarge, one_site, site_or_none}
+use Rattle.one_caller_laws.proofs.Ways.{Nowhere}
+use Rattle.one_caller_laws.proofs.Sites.{Site, is_for_vs, Why, WhyNot, NoGap, NoPages, NoLarge, one_site}
 use Rattle.one_caller_laws.proofs.Makes.{Makes, sited, makes_in_gap, makes_large, asks}
 use Rattle.one_caller_laws.proofs.Spans.{span_made, makes_by_span, makes_reserved}
 

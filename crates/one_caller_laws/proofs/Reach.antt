@@ -1,21 +1,21 @@
 -- A call that searches nothing goes from one act that it shows to the next, and a span is made only for the place behind it.
-use Rattle.std.proofs.Common.{◌≡◌, ◌⊎◌, ℕ, Bool, true, false, ◌&&◌, not, cond, List, [], ◌∷◌, Option, Some, None, refl, sym, ap, ◌∙◌, subst, inl, inr}
-use Rattle.std.proofs.lemmas.Bool.{cases_Bool, and_parts, both_ways, false≢true, true≢false, not-true}
+use Rattle.std.proofs.Common.{◌≡◌, ◌⊎◌, ℕ, Bool, true, false, not, List, [], ◌∷◌, refl, sym, ap, ◌∙◌, subst, inl, inr}
+use Rattle.std.proofs.lemmas.Bool.{and_parts, false≢true, true≢false, not-true}
 use Rattle.std.specs.List.{list_all}
 use Rattle.heap_model.specs.declared.Act.{Act}
 use Rattle.heap_model.specs.declared.Act.TheVariants as acts
 use Rattle.heap_model.specs.declared.Call.{Call}
 use Rattle.heap_model.specs.declared.Kind.{Kind}
 use Rattle.heap_model.specs.declared.Layer.{Layer}
-use Rattle.heap_model.specs.State.{Setting, Span, hands}
-use Rattle.heap_model.specs.CallState.{Configuration, Demand, Nothing, SpanBy, PlaceBy, UnspanBy}
+use Rattle.heap_model.specs.State.{Setting, Span}
+use Rattle.heap_model.specs.CallState.{Configuration, Nothing, SpanBy, PlaceBy}
 use Rattle.heap_model.specs.Legal.{may_follow, after, is_begin, is_compact, meets_demand, meets_place, meets_span}
 use Rattle.heap_model.specs.Alone.{by_zero, configuration_by, may_all_come}
 use Rattle.heap_model.specs.Shape.{is_left_out, shape_of}
 use Rattle.heap_model.specs.Serial.{IsIdle}
 use Rattle.heap_soundness.proofs.Kept.{demand_met}
-use Rattle.one_caller_laws.proofs.Core.{Core, core_of, hints_of}
-use Rattle.one_caller_laws.proofs.InCall.{InCall, in_call_after, is_quiet, begins_none, Stop, Ended, walk, IsWhole, SearchesNone, is_shown, shows, still_none}
+use Rattle.one_caller_laws.proofs.Core.{core_of, hints_of}
+use Rattle.one_caller_laws.proofs.InCall.{InCall, begins_none, Stop, Ended, walk, IsWhole, SearchesNone, is_shown, shows, still_none}
 
 -- caller 0 is in a call that is no compaction, nothing is searched, all spans have places, and nothing has to follow
 pub record Calm (s : Setting) (call : Call) (m : Configuration) : Type 0 where

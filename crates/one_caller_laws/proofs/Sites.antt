@@ -1,7 +1,6 @@
 -- Where a block goes outside the front end, and why it is refused: one of these, by what the heap is.
-use Rattle.std.proofs.Common.{◌≡◌, ◌⊎◌, ℕ, ◌+◌, ◌*◌, ◌/◌, ◌<◌, ◌≤◌, Bool, true, false, ◌||◌, List, ◌∷◌, Option, Some, None, refl, sym, ap, ◌∙◌, subst, inl, inr, arith, leb}
-use Rattle.std.specs.Prelude.{max}
-use Rattle.std.proofs.lemmas.Bool.{cases_Bool, false≢true}
+use Rattle.std.proofs.Common.{◌≡◌, ℕ, ◌*◌, ◌<◌, Bool, true, ◌||◌, List, Option, Some, None, refl, sym, ap, ◌∙◌, subst, arith}
+use Rattle.std.proofs.lemmas.Bool.{false≢true}
 use Rattle.heap_model.specs.declared.Layer.{Layer}
 use Rattle.heap_model.specs.declared.Layer.TheVariants as layers
 use Rattle.heap_model.specs.Geometry.{Route, Small, Variable, Paged, Huge, route_of, is_small, is_variable, is_paged, is_huge, units_of, span_pages_of, pages_of}

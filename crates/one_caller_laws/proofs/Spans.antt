@@ -1,6 +1,6 @@
 -- A place in a span that is made for it, outside the front end.
-use Rattle.std.proofs.Common.{◌≡◌, ◌⊎◌, ℕ, ◌+◌, ◌*◌, ◌/◌, ◌<◌, ◌≤◌, Bool, true, false, ◌&&◌, ◌||◌, not, cond, List, [], ◌∷◌, Option, Some, None, refl, sym, ap, ◌∙◌, subst, inl, inr, arith, eqb, leb, ltb}
-use Rattle.std.specs.Prelude.{filter, is_none}
+use Rattle.std.proofs.Common.{◌≡◌, ℕ, ◌+◌, ◌*◌, ◌/◌, ◌<◌, true, false, ◌&&◌, List, ◌∷◌, Option, Some, None, refl, sym, ap, ◌∙◌, subst, arith, eqb, leb, ltb}
+use Rattle.std.specs.Prelude.{is_none}
 use Rattle.std.proofs.lemmas.Bool.{and_parts, false≢true, eqb-true, leb-true, ltb-true, or_left, or_right}
 use Rattle.heap_model.specs.declared.Act.{Act}
 use Rattle.heap_model.specs.declared.Act.TheVariants as acts
@@ -11,13 +11,13 @@ use Rattle.heap_model.specs.declared.Layer.{Layer}
 use Rattle.heap_model.specs.declared.Layer.TheVariants as layers
 use Rattle.heap_model.specs.Geometry.{route_of, is_paged, units_of, span_pages_of, pages_of}
 use Rattle.heap_model.specs.Runs.{Run}
-use Rattle.heap_model.specs.State.{Setting, Area, Span, Place, is_kind}
+use Rattle.heap_model.specs.State.{Setting, Span, is_kind}
 use Rattle.heap_model.specs.Backend.{back_place}
 use Rattle.heap_model.specs.Ranges.{gaps, vs_place, is_of_kind}
 use Rattle.heap_model.specs.Stay.{for_some}
 use Rattle.heap_model.specs.CallState.{Configuration, Nothing, caller_view}
 use Rattle.heap_model.specs.Search.{request_of, asked_by, hint, hint_or, first_of, spans_of, is_span_of}
-use Rattle.heap_model.specs.Legal.{may_follow, after, lies_in, has_place, is_layer_of, meets_place, meets_span, with_span, may_reserve}
+use Rattle.heap_model.specs.Legal.{after, lies_in, has_place, is_layer_of, with_span}
 use Rattle.heap_model.specs.Alone.{by_zero, configuration_by}
 use Rattle.heap_model.specs.Shape.{shape_of}
 use Rattle.heap_model.proofs.GateSound.{row_of}
@@ -27,13 +27,13 @@ use Rattle.serial_laws.specs.BackCalls.{one_more_reserved, block_span}
 use Rattle.serial_laws.specs.VsCalls.{vs_span_for}
 use Rattle.serial_laws.proofs.Places.{all_inserted}
 use Rattle.one_caller_laws.proofs.Whole.{used_inserted}
-use Rattle.one_caller_laws.proofs.Core.{Core, core_of, hints_of}
-use Rattle.one_caller_laws.proofs.InCall.{InCall, in_call_after, IsWhole}
-use Rattle.one_caller_laws.proofs.Reach.{Goes, goes_after, may_first, place_follows, span_follows, PlaceFollows, SpanFollows}
+use Rattle.one_caller_laws.proofs.Core.{core_of}
+use Rattle.one_caller_laws.proofs.InCall.{InCall, IsWhole}
+use Rattle.one_caller_laws.proofs.Reach.{Goes, goes_after, may_first, place_follows, span_follows}
 use Rattle.one_caller_laws.proofs.Pair.{within_next}
-use Rattle.one_caller_laws.proofs.Ways.{Spot, Way, Here, Next, AreShort}
-use Rattle.one_caller_laws.proofs.Sites.{Site, is_for_vs, gaps_in_core, vs_site, pages_site, Why, Fresh, Pages}
-use Rattle.one_caller_laws.proofs.Makes.{made, placed_core, sited, Makes, size_asked, asked_so, VsRow, vs_row}
+use Rattle.one_caller_laws.proofs.Ways.{Here, Next, AreShort}
+use Rattle.one_caller_laws.proofs.Sites.{Site, is_for_vs, gaps_in_core, vs_site, Why, Fresh, Pages}
+use Rattle.one_caller_laws.proofs.Makes.{made, sited, Makes, size_asked, asked_so, vs_row}
 
 -- why the place in the new span is there, where P is known of the pages of the span
 pub data SpanWhy (s : Setting) (m : Configuration) (n : ℕ) (P : ℕ → Type 0) (site : Site) : Type 0 where
@@ -235,7 +235,6 @@ makes_by_span s call m n rest P x = record {
     why : (site : Site) → SpanWhy s m n P site → Why s (core_of m) n site
     why site (InVs first r a none place reserved fits is known) = Fresh (record { area = m.state.back.area; first = first }) r a none (Here first refl place reserved) fits is
     why site (InBack first paged place reserved is known) = Pages (record { area = m.state.back.area; first = first }) paged (Here first refl place reserved) is
-
 
 -- .. or in the next one
 makes_by_next : (s : Setting) (call : Call) (m : Configuration) (n : ℕ) (rest : List Act) → m.state.back.area.reserved < s.limits.segments →

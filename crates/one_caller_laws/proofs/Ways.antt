@@ -1,10 +1,10 @@
 -- A request for pages goes one way: into a segment that is reserved, into the next one, or nowhere.
-use Rattle.std.proofs.Common.{◌≡◌, ◌⊎◌, ℕ, zero, suc, ◌+◌, ◌-◌, ◌*◌, ◌/◌, ◌%◌, ◌<◌, ◌≤◌, Bool, true, false, ◌&&◌, ◌||◌, not, cond, List, [], ◌∷◌, Option, Some, None, refl, sym, ap, ◌∙◌, subst, inl, inr, arith, eqb, leb, ltb}
-use Rattle.std.specs.List.{list_all, list_any}
-use Rattle.std.proofs.lemmas.Bool.{cases_Bool, and_parts, and_from, both_ways, eqb-true, eq-eqb, ne_eqb, ltb-true, lt-ltb, le-ltb, leb-true, leb-false, not-true, not_from_false, or_from, cases_eq, cases_lt}
+use Rattle.std.proofs.Common.{◌≡◌, ℕ, zero, suc, ◌+◌, ◌-◌, ◌*◌, ◌/◌, ◌%◌, ◌<◌, ◌≤◌, Bool, true, false, ◌||◌, List, [], ◌∷◌, Option, Some, None, refl, sym, ap, ◌∙◌, subst, inl, inr, arith, eqb, leb, ltb}
+use Rattle.std.specs.List.{list_all}
+use Rattle.std.proofs.lemmas.Bool.{cases_Bool, and_parts, both_ways, eq-eqb, ne_eqb, ltb-true, lt-ltb, le-ltb, leb-true, leb-false, or_from, cases_eq, cases_lt}
 use Rattle.heap_model.specs.Runs.{Run, runs, joined, fitting, least}
 use Rattle.heap_model.specs.State.{Area}
-use Rattle.heap_model.specs.Backend.{is_free, is_usable, in_span, free_runs, back_place, first_or, next_segment, is_better}
+use Rattle.heap_model.specs.Backend.{is_free, free_runs, back_place, first_or, next_segment, is_better}
 use Rattle.heap_model.specs.Legal.{is_run_of}
 use Rattle.heap_soundness.specs.Sound.{IsOneOf}
 use Rattle.heap_soundness.proofs.BackendLemmas.{AreFree, back_place_free, usable_of, outside_of}

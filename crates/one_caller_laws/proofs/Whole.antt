@@ -1,22 +1,20 @@
 -- Where caller 0 alone has come, each span of the variable-size layer and of the back end has a place, unless its lock is held.
-use Rattle.std.proofs.Common.{◌≡◌, ◌⊎◌, ℕ, ◌+◌, ◌*◌, ◌/◌, Bool, true, false, ◌&&◌, not, cond, List, [], ◌∷◌, Option, Some, None, refl, sym, ap, ◌∙◌, subst, arith, inl, inr}
-use Rattle.std.specs.Prelude.{filter, is_none}
-use Rattle.std.specs.List.{find, list_all, list_any}
-use Rattle.std.proofs.lemmas.Bool.{cases_Bool, and_parts, false≢true, true≢false, not-true}
+use Rattle.std.proofs.Common.{◌≡◌, ◌⊎◌, ℕ, ◌/◌, Bool, true, false, ◌&&◌, List, [], ◌∷◌, Option, Some, None, refl, sym, ap, ◌∙◌, subst, inl, inr}
+use Rattle.std.specs.List.{find, list_all}
+use Rattle.std.proofs.lemmas.Bool.{cases_Bool, and_parts, false≢true}
 use Rattle.heap_model.specs.declared.Act.{Act}
 use Rattle.heap_model.specs.declared.Act.TheVariants as acts
 use Rattle.heap_model.specs.declared.Kind.{Kind}
 use Rattle.heap_model.specs.declared.Kind.TheVariants as kinds
 use Rattle.heap_model.specs.declared.Layer.{Layer}
 use Rattle.heap_model.specs.declared.Layer.TheVariants as layers
-use Rattle.heap_model.specs.declared.What.{What}
 use Rattle.heap_model.specs.declared.What.TheVariants as whats
 use Rattle.heap_model.specs.State.{Setting, State, Span, Place, Status, is_kind, is_layer, holds, hand_at, place_at, is_hand_at, is_live_at, Live, InHand, insert_span, change_found, remove_found}
 use Rattle.heap_model.specs.Ranges.{gaps, is_of_kind}
 use Rattle.heap_model.specs.Stay.{for_some}
-use Rattle.heap_model.specs.CallState.{Configuration, CallerView, caller_view, held, is_inside}
+use Rattle.heap_model.specs.CallState.{Configuration, CallerView, caller_view, is_inside}
 use Rattle.heap_model.specs.Search.{request_of, span_at, begins_at}
-use Rattle.heap_model.specs.Legal.{may, may_follow, after, state_after, lies_in, has_place, are_used, leaves_whole, may_span, may_span_for, may_unspan, may_unspan_of, is_unused, may_touch, may_give, may_take, may_drop, may_resize, is_resized, with_status, with_places, resize_place, on, layer_of, area_with, area_resized, is_back_at, with_pages}
+use Rattle.heap_model.specs.Legal.{may, may_follow, after, state_after, lies_in, has_place, are_used, leaves_whole, may_span_for, may_unspan_of, is_unused, may_touch, is_resized, with_status, with_places, resize_place, on, layer_of, area_with, is_back_at, with_pages}
 use Rattle.heap_model.specs.History.{first_configuration}
 use Rattle.heap_model.specs.Alone.{by_zero, configuration_by, may_all_come}
 use Rattle.heap_model.proofs.GateSound.{row_of}

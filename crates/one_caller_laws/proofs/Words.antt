@@ -1,5 +1,5 @@
 -- A word that is read or written, the heap lock, and a step of a walk.
-use Rattle.std.proofs.Common.{◌≡◌, ◌⊎◌, ℕ, ◌+◌, ◌/◌, ◌<◌, ◌≤◌, Bool, true, false, ◌&&◌, List, [], ◌∷◌, Option, Some, None, refl, sym, ap, ◌∙◌, subst, inl, inr, arith, eqb, ltb}
+use Rattle.std.proofs.Common.{◌≡◌, ℕ, ◌+◌, ◌/◌, ◌<◌, ◌≤◌, true, ◌&&◌, List, [], ◌∷◌, Some, None, refl, sym, ap, ◌∙◌, subst, arith, eqb, ltb}
 use Rattle.std.proofs.lemmas.Bool.{and_parts, eqb-true}
 use Rattle.heap_model.specs.declared.Act.{Act}
 use Rattle.heap_model.specs.declared.Act.TheVariants as acts
@@ -9,20 +9,20 @@ use Rattle.heap_model.specs.declared.Call.TheVariants as calls
 use Rattle.heap_model.specs.declared.Reply.{Reply}
 use Rattle.heap_model.specs.declared.Reply.TheVariants as replies
 use Rattle.heap_model.specs.Geometry.{words_of}
-use Rattle.heap_model.specs.State.{Setting, IsValidSetting, State, updated}
+use Rattle.heap_model.specs.State.{Setting, updated}
 use Rattle.heap_model.specs.CallState.{Configuration, caller_view, Nothing}
 use Rattle.heap_model.specs.Search.{sought_by}
 use Rattle.heap_model.specs.Legal.{may_follow, after, data_words}
 use Rattle.heap_model.specs.Alone.{by_zero, configuration_by}
 use Rattle.heap_model.specs.Moments.{moments_by}
-use Rattle.heap_model.specs.Shape.{shape_of, shown, FindsNone, Gets, Puts, IsPast, Locks, Unlocks, WalksTo, next_live, HasActs, HasShape, Replied}
+use Rattle.heap_model.specs.Shape.{shape_of, Gets, Puts, IsPast, Locks, Unlocks, next_live, HasActs, HasShape, Replied}
 use Rattle.heap_model.proofs.GateSound.{row_of}
-use Rattle.one_caller_laws.specs.OneCall.{IsBetween, AreAlike, Answers, IsDetermined, IsSameReply}
-use Rattle.one_caller_laws.proofs.Core.{Core, core_of, hints_of}
-use Rattle.one_caller_laws.proofs.InCall.{InCall, IsWhole, SearchesNone}
-use Rattle.one_caller_laws.proofs.Reach.{Calm, Goes, goes_after, may_first, is_place}
+use Rattle.one_caller_laws.specs.OneCall.{AreAlike, IsDetermined, IsSameReply}
+use Rattle.one_caller_laws.proofs.Core.{Core, core_of}
+use Rattle.one_caller_laws.proofs.InCall.{IsWhole, SearchesNone}
+use Rattle.one_caller_laws.proofs.Reach.{goes_after, may_first}
 use Rattle.one_caller_laws.proofs.Pair.{shown_is, none_asked, within_next, HintsAlike}
-use Rattle.one_caller_laws.proofs.Duo.{Duo, DuoAt, duo_at, duo_end, duo_look, duo_swap, hints_at}
+use Rattle.one_caller_laws.proofs.Duo.{Duo, duo_at, duo_end, duo_look, duo_swap}
 use Rattle.one_caller_laws.proofs.Asks.{duo_begun, none_is, duo_none, duo_sized_none, DuoSized, duo_sized, duo_sized_end, same_reply, alike_at}
 
 -- one act of both
@@ -115,17 +115,19 @@ module _ (s : Setting) (call : Call) (m n : Configuration) (reply other : Reply)
       let g = loaded s y.at word v (may_first s y.at (acts.Load word v) y.later y.duo.goes) in
       let h = loaded s y.at_too word q (may_first s y.at_too (acts.Load word q) y.later_too y.duo.goes_too) in
       let same : v ≡ q = sym g ∙ ap (λ (c : Core). c.words word) y.duo.core ∙ h in
-      let z = duo_look s call y.at (acts.Load word v) y.later y.at_too (acts.Load word q) y.later_too y.duo refl refl in
-      (same_reply reply other (e ∙ ap replies.Number same ∙ sym f),
-       alike_at _ _ _ _ (x.ends ∙ y.ends) (x.ends_too ∙ y.ends_too) (duo_end s call _ y.later _ y.later_too z y.shape y.shape_too))
+      let z = duo_look s call y.at (acts.Load word v) y.later y.at_too (acts.Load word q) y.later_too y.duo refl refl in (
+        same_reply reply other (e ∙ ap replies.Number same ∙ sym f),
+        alike_at _ _ _ _ (x.ends ∙ y.ends) (x.ends_too ∙ y.ends_too) (duo_end s call _ y.later _ y.later_too z y.shape y.shape_too),
+      )
 
   both_store : (a size other_size word v : ℕ) → reply ≡ replies.Done → other ≡ replies.Done → ((k : Configuration) → sought_by s k.state 0 call ≡ None) →
       DuoSized s call k rest l others a size other_size (acts.Store word v ∷ []) (acts.Store word v ∷ []) → Same
   both_store a size other_size word v e f asks x =
       let y = duo_at s call x.at x.later x.at_too x.later_too (acts.Store word v) [] (acts.Store word v) [] x.duo x.shape x.shape_too refl refl in
-      let z = duo_store s call y.at word v y.later y.at_too y.later_too y.duo asks in
-      (same_reply reply other (e ∙ sym f),
-       alike_at _ _ _ _ (x.ends ∙ y.ends) (x.ends_too ∙ y.ends_too) (duo_end s call _ y.later _ y.later_too z y.shape y.shape_too))
+      let z = duo_store s call y.at word v y.later y.at_too y.later_too y.duo asks in (
+        same_reply reply other (e ∙ sym f),
+        alike_at _ _ _ _ (x.ends ∙ y.ends) (x.ends_too ∙ y.ends_too) (duo_end s call _ y.later _ y.later_too z y.shape y.shape_too),
+      )
 
   both_past : (a size other_size words q : ℕ) → reply ≡ replies.Past words → other ≡ replies.Past q → words ≡ words_of size → q ≡ words_of other_size → DuoSized s call k rest l others a size other_size [] [] → Same
   both_past a size other_size words q e f w v x = (same_reply reply other (e ∙ ap replies.Past (w ∙ ap words_of x.same ∙ sym v) ∙ sym f), duo_sized_end s call k rest l others a size other_size x)

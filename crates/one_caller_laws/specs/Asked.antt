@@ -1,16 +1,16 @@
 -- All that one caller asks: a script says what comes next by the replies so far.
-use Rattle.std.specs.Prelude.{◌≡◌, ℕ, true, List, [], ◌∷◌, ◌++◌, Option, Some, None}
+use Rattle.std.specs.Prelude.{◌≡◌, ℕ, ◌<◌, true, List, [], ◌∷◌, ◌++◌, Option, Some, None}
 use Rattle.heap_model.specs.declared.Call.{Call}
+use Rattle.heap_model.specs.declared.Call.TheVariants as calls
 use Rattle.heap_model.specs.declared.Act.{Act}
-use Rattle.heap_model.specs.declared.Limits.{Limits}
 use Rattle.heap_model.specs.declared.Reply.{Reply}
-use Rattle.heap_model.specs.Limits.{AreValid}
 use Rattle.heap_model.specs.State.{Setting, State, IsValidSetting}
 use Rattle.heap_model.specs.History.{first_configuration}
 use Rattle.heap_model.specs.Alone.{configuration_by, may_all_come}
 use Rattle.heap_model.specs.Moments.{Moment, moments_by}
 use Rattle.heap_model.specs.Served.{GetsReply, by_depth, depth_after, IsServed}
-use Rattle.heap_model.specs.Serial.{IsIdle, IsSerial}
+use Rattle.heap_model.specs.Serial.{IsIdle}
+use Rattle.one_caller_laws.specs.OneCall.{IsDetermined}
 
 -- What is asked next, where anything is, behind the replies so far.
 abbrev pub Script : Type 0
@@ -36,11 +36,23 @@ pub record Runs (s : Setting) (script : Script) (replies : List Reply) (state : 
   pub ends : state ≡ (configuration_by s first_configuration acts).state
 
 -- Two runs of one script in one setting have the same replies, and end in the same state.
-abbrev pub RunsAreOne : Type 0
-RunsAreOne = (s : Setting) (script : Script) (replies others : List Reply) (state other : State) → IsValidSetting s →
-    Runs s script replies state → Runs s script others other → (replies ≡ others) × (state ≡ other)
+abbrev pub AreOne : Setting → Script → Type 0
+AreOne s script = (replies others : List Reply) (state other : State) → Runs s script replies state → Runs s script others other → (replies ≡ others) × (state ≡ other)
 
--- So what a list of calls is answered is a function of the calls, the limits and the seed.
-abbrev pub SerialIsAFunction : Type 0
-SerialIsAFunction = (limits : Limits) (seed : ℕ) (calls : List Call) (replies others : List Reply) (state other : State) → AreValid limits →
-    IsSerial limits seed calls replies state → IsSerial limits seed calls others other → (replies ≡ others) × (state ≡ other)
+-- whatever was replied, the script asks such calls alone
+abbrev pub AsksOnly : (Call → Type 0) → Script → Type 0
+AsksOnly P script = (before : List Reply) (call : Call) → script before ≡ Some call → P call
+
+-- Where each call that a script asks is determined, so are its runs.
+abbrev pub EachThenAll : Type 0
+EachThenAll = (s : Setting) (script : Script) → IsValidSetting s → AsksOnly IsDetermined script → AreOne s script
+
+-- any call but a reallocation, and an allocation of so many bytes that the front end never serves it
+abbrev pub IsOfOthers : Call → Type 0
+IsOfOthers (calls.Alloc n flags) = 16368 < n
+IsOfOthers (calls.Realloc a n flags) = ⊥
+IsOfOthers call = Unit {0}
+
+-- Of scripts of such calls it is so.
+abbrev pub RunsOfOthersAreOne : Type 0
+RunsOfOthersAreOne = (s : Setting) (script : Script) → IsValidSetting s → AsksOnly IsOfOthers script → AreOne s script

@@ -4,6 +4,8 @@
 ghost use Rattle.std.specs.Prelude.{ℕ};
 ghost use Rattle.heap_model.specs.declared.Call.TheVariants as calls;
 ghost use Rattle.one_caller_laws.specs.OneCall.{AllocationIsDetermined, IsDetermined};
+ghost use Rattle.one_caller_laws.specs.Asked.{EachThenAll, RunsOfOthersAreOne};
+ghost use Rattle.one_caller_laws.specs.Worked.{SearchIsNotDetermined, TwoHints, TwoReplies, TwoWays};
 
 /// An allocation in which the front end has no part: large, of the back end, or of the variable-size layer.
 pub fn allocation_is_determined()
@@ -43,4 +45,39 @@ pub fn unlock_is_determined()
 /// A step of a walk.
 pub fn walk_is_determined()
     ensures { (from : ℕ) → IsDetermined (calls.WalkNext from) }
+{}
+
+/// A compaction.
+pub fn compaction_is_determined()
+    ensures { IsDetermined calls.Compact }
+{}
+
+/// Where each call that a script asks is determined, two runs of it are one.
+pub fn each_then_all()
+    ensures { EachThenAll }
+{}
+
+/// So are two runs of a script in which the front end has no part, and nothing is reallocated.
+pub fn runs_of_others_are_one()
+    ensures { RunsOfOthersAreOne }
+{}
+
+/// A worked pair of different lists of one call, with one reply.
+pub fn two_ways()
+    ensures { TwoWays }
+{}
+
+/// Two lists of one call of which one places what a pass has found behind the lock of the back end.
+pub fn two_hints()
+    ensures { TwoHints }
+{}
+
+/// The replies of a later call differ.
+pub fn two_replies()
+    ensures { TwoReplies }
+{}
+
+/// So what the front end serves is not determined by what a heap shows.
+pub fn search_is_not_determined()
+    ensures { SearchIsNotDetermined }
 {}
