@@ -1,7 +1,7 @@
 -- The pages at which free runs begin, and the runs that words tell.
-use Rattle.std.proofs.Common.{◌≡◌, ℕ, suc, zero, ◌+◌, ◌-◌, ◌/◌, ◌%◌, ◌<◌, ◌≤◌, ◌⊎◌, inl, inr, Bool, true, false, refl, ap, sym, ◌∙◌, arith, subst, List, [], ◌∷◌, length, get_or, Some, None, eqb, leb, min, replicate, add-zero}
+use Rattle.std.proofs.Common.{◌≡◌, ℕ, suc, zero, ◌+◌, ◌-◌, ◌*◌, ◌/◌, ◌%◌, ◌<◌, ◌≤◌, ◌⊎◌, inl, inr, Bool, true, false, refl, ap, sym, ◌∙◌, arith, subst, List, [], ◌∷◌, length, get_or, Some, None, eqb, leb, ltb, min, replicate, add-zero}
 use Rattle.std.specs.List.{AllByRecursion, find}
-use Rattle.std.proofs.lemmas.Bool.{cases_lt, cases_Bool, le-leb, lt-leb, leb-true, and_parts}
+use Rattle.std.proofs.lemmas.Bool.{cases_lt, cases_Bool, le-ltb, le-leb, lt-leb, leb-true, and_parts}
 use Rattle.std.proofs.lemmas.List.{get_or_past, get_or-replicate, length-replicate}
 use Rattle.std.proofs.lemmas.Nat.Bits.{bit_at-zero}
 use Rattle.heap_model.specs.declared.Kind.TheVariants as kinds
@@ -12,8 +12,11 @@ use Rattle.page_ranges.specs.Ranges.{IsRun, IsMarked, IsMarkedRun, AreRuns, IsWh
 use Rattle.page_ranges.specs.Spans.{is_of_free, frees_in, plain}
 use Rattle.page_ranges.proofs.Decode.{kind_small, first_is_first}
 use Rattle.page_ranges.proofs.Runs.{first_tells, page_tells, finds_run, parts_of, runs_le, and_right_false}
+use Rattle.backend_fit.specs.Pages.{Pages}
+use Rattle.backend_fit.specs.Sound.{AreSound}
 use Rattle.backend_fit.specs.Bits.{has, HasNone, IsFirstIn}
 use Rattle.backend_fit.specs.Starts.{begins_free, AreStarts, is_free_from}
+use Rattle.backend_fit.proofs.Segment.{header_word}
 
 ---- The words of a run
 
@@ -221,14 +224,20 @@ fresh_starts n = record {
     ]
 
 module _ (starts : List ℕ) (longest : ℕ) (words : List ℕ) (s : AreStarts starts longest words) (w : IsWhole words) where
-  pub no_next : (from : ℕ) → HasNone starts from (length words) → find (is_free_from from) (runs_of words) ≡ None
-  no_next from none = none_found words from 0 (runs_of words) w (told_none starts longest words from (length words) s none)
+  module _ (to : ℕ) (inside : to ≤ length words) (behind : (page : ℕ) → to ≤ page → at_page words page ≡ false) where
+    pub no_next : (from : ℕ) → HasNone starts from to → find (is_free_from from) (runs_of words) ≡ None
+    no_next from none = none_found words from 0 (runs_of words) w each
+      where
+        each : (page : ℕ) → from ≤ page → page < length words → at_page words page ≡ false
+        each page l h = elim (cases_lt page to) [ inl n ↦ told_none starts longest words from to s none page l n | inr n ↦ behind page n ]
 
-  pub next_is : (from page : ℕ) (r : real.Run) → IsFirstIn starts from (length words) page → find (has_page page) (runs_of words) ≡ Some r → Some r ≡ find (is_free_from from) (runs_of words)
-  next_is from page r f at =
-      let b : at_page words page ≡ true = sym (s.each page) ∙ f.there in
-      let is : Some r ≡ Some (run_of_page words page) = sym at ∙ finds_run words page w f.high in
-      is ∙ sym (next_found words from page (told_none starts longest words from page s f.first) f.low f.high b 0 (runs_of words) w (omega arith))
+    pub next_is : (from page : ℕ) (r : real.Run) → IsFirstIn starts from to page → find (has_page page) (runs_of words) ≡ Some r → Some r ≡ find (is_free_from from) (runs_of words)
+    next_is from page r f at =
+        let b : at_page words page ≡ true = sym (s.each page) ∙ f.there in
+        let high = f.high in
+        let l : page < length words = omega arith in
+        let is : Some r ≡ Some (run_of_page words page) = sym at ∙ finds_run words page w l in
+        is ∙ sym (next_found words from page (told_none starts longest words from page s f.first) f.low l b 0 (runs_of words) w (omega arith))
 
   pub none_longer : AllByRecursion (λ (q : Run). q.count ≤ longest) (frees_in (runs_of words))
   none_longer = all_short starts longest words 0 (length words) (runs_of words) s w
@@ -260,3 +269,13 @@ next_inside words from r w f =
       some = p.is_run.some;
       inside = runs_le words (r.first + r.pages) (length words) p.after p.back;
     }
+
+-- no free run begins behind the reserved segments
+pub behind_none : (k : Pages) → AreSound k → (page : ℕ) → 256 * k.region.reserved ≤ page → at_page k.words page ≡ false
+behind_none k s page l = elim (cases_lt page (length k.words)) [
+  | inl h ↦
+      let out : ltb (page / 256) k.region.reserved ≡ false = le-ltb (page / 256) k.region.reserved (omega arith) in
+      let word = header_word k s page h (rw out refl) in
+      rw word refl
+  | inr h ↦ outside_none k.words page h
+]

@@ -1,5 +1,5 @@
 //! The descriptors of pages, with what finds their free runs without a look at any span.
-ghost use Rattle.std.specs.Prelude.{◌≡◌, ℕ, ◌+◌, ◌*◌, ◌<◌, ◌≤◌, ◌⊎◌, [], IfOk, length, replicate, true, false};
+ghost use Rattle.std.specs.Prelude.{◌≡◌, ℕ, ◌+◌, ◌*◌, ◌<◌, ◌≤◌, ◌⊎◌, [], IfOk, length, replicate, slice_index, true, false};
 ghost use Rattle.std.specs.List.{find, AllByRecursion};
 ghost use Rattle.heap_model.specs.Limits.{AreValid};
 ghost use Rattle.heap_model.specs.Marks.{free_mark};
@@ -8,7 +8,7 @@ ghost use Rattle.page_ranges.specs.Words.{runs_of};
 ghost use Rattle.page_ranges.specs.Ranges.{IsWhole, IsHeadered, IsMark, IsMarked, IsInSegment, is_open, has_page};
 ghost use Rattle.page_ranges.specs.Spans.{frees_in};
 ghost use Rattle.backend_fit.specs.Bits.{has};
-ghost use Rattle.backend_fit.specs.Starts.{is_free_from};
+ghost use Rattle.backend_fit.specs.Starts.{begins_free, is_free_from};
 
 use crate::is_free;
 use crate::page_bits::{clear, first_in, insert};
@@ -85,12 +85,15 @@ impl Ranges {
         self.descs.run_at(page)
     }
 
-    /// The first free run that begins at a page or behind it. It looks at no span.
-    pub(crate) fn next_free(&self, from: u32) -> Option<Run>
-        requires { IsWhole self.now }
+    /// The first free run that begins at a page or behind it, where none begins behind a later page. It looks at no span.
+    pub(crate) fn next_free(&self, from: u32, to: u32) -> Option<Run>
+        requires whole { IsWhole self.now }
+        requires inside { to ≤ length self.now }
+        requires none { (page : ℕ) → to ≤ page → begins_free page (slice_index self.now page) ≡ false }
         ensures { result ≡ find (is_free_from from) (runs_of self.now) }
     {
-        let page = first_in(&self.starts, from, self.descs.pages())?;
+        let _pages = self.descs.pages();
+        let page = first_in(&self.starts, from, to)?;
         Some(self.descs.run_at(page))
     }
 

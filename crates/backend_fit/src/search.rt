@@ -9,7 +9,7 @@ ghost use Rattle.backend_fit.specs.Sound.{AreSound};
 ghost use Rattle.backend_fit.specs.Best.{with_run, run_in, IsCounted, IsCandidate};
 
 use crate::ranges::Ranges;
-use heap_model::Run;
+use heap_model::{Run, SEGMENT_PAGES};
 use page_region::Region;
 
 /// The best run so far, and how many of its pages are committed, once that was asked.
@@ -27,9 +27,10 @@ pub(crate) fn best_fit(region: &Region, descs: &Ranges, n: u32) -> Option<Run>
     if n > descs.longest() {
         return None;
     }
+    let end = SEGMENT_PAGES * region.reserved();
     let mut best = None;
     let mut from = 0;
-    while let Some(run) = descs.next_free(from) {
+    while let Some(run) = descs.next_free(from, end) {
         best = better_of(region, best, run, n);
         from = run.first + 1;
     }

@@ -6,7 +6,7 @@ use Rattle.page_ranges.specs.Spans.{frees_in}
 use Rattle.backend_fit.specs.Pages.{Pages, pages_area}
 use Rattle.backend_fit.specs.Best.{run_in}
 use Rattle.backend_fit.proofs.Segment.{frees_of}
-use Rattle.backend_fit.proofs.Starts.{none_fits, IsNext, next_inside}
+use Rattle.backend_fit.proofs.Starts.{none_fits, IsNext, next_inside, behind_none}
 use Rattle.backend_fit.proofs.Better.{candidate_later}
 use Rattle.backend_fit.proofs.BestFit.{search_goes_on, search_ends}
 use Rattle.backend_fit.proofs.search.best_fit.Goals as goal
@@ -55,3 +55,6 @@ returns-in-Some-best c = rw c.in-Some-best.is at (ended (goal.at.returns-in-Some
 
 pub returns-in-None : goal.returns-in-None
 returns-in-None c = rw c.in-None.is at (ended (goal.at.returns-in-None c).In_default)
+
+pub next_free-requires-clause-none : goal.next_free-requires-clause-none
+next_free-requires-clause-none c = rw c.reserved-end.ensures.reserved (behind_none (record { region = c.args.region.now; words = c.args.descs.now }) c.requires)
