@@ -4,7 +4,9 @@ pub mod NameLemmas
 pub mod KeyLemmas
 pub mod NumberedLemmas
 pub mod PieceLemmas
+pub mod GrownLemmas
 pub mod OrderLemmas
 pub mod SaidLemmas
 pub mod ReadingLemmas
 pub mod UnbuiltLemmas
+pub mod TakenLemmas
