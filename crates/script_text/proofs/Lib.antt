@@ -4,8 +4,10 @@ pub mod NameLemmas
 pub mod KeyLemmas
 pub mod NumberedLemmas
 pub mod PieceLemmas
+pub mod GrownLemmas
 pub mod OrderLemmas
 pub mod SaidLemmas
 pub mod ReadingLemmas
 pub mod UnbuiltLemmas
 pub mod GeneratorLemmas
+pub mod TakenLemmas

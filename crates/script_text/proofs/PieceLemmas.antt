@@ -1,8 +1,8 @@
 -- One element more behind a list that is cut at marks.
-use Rattle.std.proofs.Common.{◌≡◌, ℕ, suc, ◌+◌, ◌<◌, ◌≤◌, ltb, None, Bool, true, false, ◌||◌, cond, max, List, [], ◌∷◌, ◌++◌, length, take, drop, refl, ap, arith, inl, inr, one-add, add-one}
+use Rattle.std.proofs.Common.{◌≡◌, ◌+◌, Bool, true, false, ◌||◌, cond, max, List, [], ◌∷◌, ◌++◌, length, refl, arith, inl, inr}
 use Rattle.std.specs.Prelude.{count_by}
-use Rattle.std.specs.List.{list_any, position, position_or_len}
-use Rattle.std.proofs.lemmas.Bool.{cases_Bool, ltb-false}
+use Rattle.std.specs.List.{list_any}
+use Rattle.std.proofs.lemmas.Bool.{cases_Bool}
 use Rattle.std.proofs.lemmas.List.Folds.{list_any-append}
 use Rattle.std.proofs.lemmas.Grind.{fold-append}
 use Rattle.script_text.specs.Pieces.{marked_pieces, cut_before, behind_last}
@@ -58,34 +58,3 @@ cut_push p (x ∷ xs) y =
       | inl h ↦ let f : length (marked_pieces p (xs ++ y ∷ [])) ≡ length (marked_pieces p xs) + 1 = rw h at e in rw h (omega arith)
       | inr h ↦ let f : length (marked_pieces p (xs ++ y ∷ [])) ≡ length (marked_pieces p xs) + 0 = rw h at e in rw h (omega arith)
     ]
-
-marked_at : {X : Type 0} (p : X → Bool) (xs : List X) → marked_pieces p xs ≡ cut_before p (drop (position_or_len p xs) xs)
-marked_at p [] = refl
-marked_at p (x ∷ xs) = elim (cases_Bool (p x)) [
-  | inl h ↦ rw h refl
-  | inr h ↦ rw (h, one-add) (marked_at p xs)
-]
-
--- the first piece, and the others
-pub cut_first : {X : Type 0} (p : X → Bool) (x : X) (xs : List X) (n : ℕ) → n ≡ position_or_len p xs → cut_before p (x ∷ xs) ≡ take (n + 1) (x ∷ xs) ∷ cut_before p (drop (n + 1) (x ∷ xs))
-cut_first p x xs n e = rw (e, add-one) (ap (λ m. take (suc (position_or_len p xs)) (x ∷ xs) ∷ m) (marked_at p xs))
-
-pub cut_at : {X : Type 0} (p : X → Bool) (lines behind front others : List X) (n : ℕ) → 0 < length lines → behind ≡ drop 1 lines → n ≡ position_or_len p behind →
-    front ≡ take (n + 1) lines → others ≡ drop (n + 1) lines → cut_before p lines ≡ front ∷ cut_before p others
-cut_at p [] behind front others n l b e f o = absurd (omega arith)
-cut_at p (x ∷ xs) behind front others n l b e f o =
-    let m : n ≡ position_or_len p xs = rw b at e in
-    rw (f, o) (cut_first p x xs n m)
-
-place_within : {X : Type 0} (p : X → Bool) (xs : List X) → position_or_len p xs ≤ length xs
-place_within p [] = omega arith
-place_within p (x ∷ xs) = elim (cases_Bool (p x)) [
-  | inl h ↦ rw h (omega arith)
-  | inr h ↦ rw h (omega (arith, place_within p xs))
-]
-
-pub no_place : {X : Type 0} (p : X → Bool) (xs : List X) → position p xs ≡ None → length xs ≡ position_or_len p xs
-no_place p xs e = elim (cases_Bool (ltb (position_or_len p xs) (length xs))) [
-  | inl h ↦ let f = rw h at e in absurd (let z : ⊥ = cc in z)
-  | inr h ↦ let l = ltb-false (position_or_len p xs) (length xs) h in let m = place_within p xs in omega arith
-]

@@ -9,8 +9,10 @@ pub mod Pieces
 pub mod Order
 pub mod Counted
 pub mod ThreadLines
+pub mod Grown
 pub mod Rounds
 pub mod Reading
+pub mod Taken
 pub mod Scripts
 pub mod Unbuilt
 pub mod Values

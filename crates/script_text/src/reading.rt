@@ -1,30 +1,32 @@
 // A text, line after line.
-ghost use Rattle.std.specs.Prelude.{◌≡◌, ◌+◌, ◌^◌, ◌<◌, ◌≤◌, [], length, vec_len, Ok, Err, IfOk, IfErr};
+ghost use Rattle.std.specs.Prelude.{◌≡◌, ◌+◌, ◌<◌, ◌≤◌, List, [], length, Ok, Some, IfOk, IfErr};
 ghost use Rattle.script_text.specs.Lines.{lines_of};
 ghost use Rattle.script_text.specs.Names.{names_in, different};
-ghost use Rattle.script_text.specs.Order.{AreCounted};
 ghost use Rattle.script_text.specs.Counted.{IsWithin};
 ghost use Rattle.script_text.specs.Reading.{noted, ended, lines_read, IsRefusedAs};
+ghost use Rattle.script_text.specs.Rounds.{rounds_of};
+ghost use Rattle.script_text.specs.Taken.{IsTaken, IsNoted};
+ghost use Rattle.script_text.specs.declared.commands.NumberedLine.{NumberedLine};
 
-use crate::commands::{Line, NumberedLine};
+use crate::commands::Line;
 use crate::counts::Counts;
 use crate::faults::{Cause, ScriptFault, ScriptNo};
 use crate::lines::cut_line;
 use crate::numbering::Names;
+use crate::rounds::{Round, add_line};
 use crate::saying::say;
 use std::alloc::Global;
 
-/// The lines that were read so far, and the counts of them.
+/// The rounds of the lines that were read so far, and the counts of them.
 #[derive(Drop)]
 pub struct Taken {
-    pub lines: Vec<NumberedLine>,
+    pub rounds: Vec<Round>,
     pub counts: Counts,
 }
 
 impl Taken {
     fn new(alloc: Global) -> Self
-        ensures lines { result.lines.items ≡ [] }
-        ensures counted { AreCounted result.counts result.lines.items }
+        ensures taken { IsTaken result.rounds.items result.counts 0 [] }
         ensures within { IsWithin result.counts 0 }
     {
         let counts = Counts {
@@ -33,37 +35,43 @@ impl Taken {
             walks: 0,
         };
         Taken {
-            lines: Vec::new(alloc),
+            rounds: Vec::new(alloc),
             counts,
         }
     }
 
     /// Takes what the next line says. Behind a refusal nothing more may be taken.
-    fn note(&mut self, number: u32, said: Option<Line>, limit: u32) -> Result<(), ScriptNo>
-        requires counted { AreCounted self.old.counts self.old.lines.items }
+    fn note(
+        &mut self,
+        alloc: Global,
+        number: u32,
+        said: Option<Line>,
+        limit: u32,
+    ) -> Result<(), ScriptNo>
+        requires taken { (before : List NumberedLine) × IsTaken self.old.rounds.items self.old.counts limit before }
         requires within { IsWithin self.old.counts limit }
-        requires room { limit < 2 ^ 31 }
-        ensures noted { IfOk result (λ _. noted self.old.lines.items number (Ok said) ≡ Ok self.new.lines.items) }
-        ensures counted { IfOk result (λ _. AreCounted self.new.counts self.new.lines.items) }
+        requires room { limit < 1048576 }
+        ensures noted { IfOk result (λ _. (before : List NumberedLine) → IsTaken self.old.rounds.items self.old.counts limit before →
+            IsNoted before number said self.new.rounds.items self.new.counts (limit + 1)) }
         ensures within { IfOk result (λ _. IsWithin self.new.counts (limit + 1)) }
-        ensures fault { IfErr result (IsRefusedAs (noted self.old.lines.items number (Ok said))) }
-        ensures few { vec_len self.new.lines ≤ vec_len self.old.lines + 1 }
+        ensures fault { IfErr result (λ no. (before : List NumberedLine) → IsTaken self.old.rounds.items self.old.counts limit before →
+            IsRefusedAs (noted before number (Ok said)) no) }
     {
         match said {
-            Some(line) => self.place(number, line, limit),
+            Some(line) => self.place(alloc, number, line, limit),
             None => Ok(()),
         }
     }
 
-    fn place(&mut self, number: u32, line: Line, limit: u32) -> Result<(), ScriptNo>
-        requires counted { AreCounted self.old.counts self.old.lines.items }
+    fn place(&mut self, alloc: Global, number: u32, line: Line, limit: u32) -> Result<(), ScriptNo>
+        requires taken { (before : List NumberedLine) × IsTaken self.old.rounds.items self.old.counts limit before }
         requires within { IsWithin self.old.counts limit }
-        requires room { limit < 2 ^ 31 }
-        ensures noted { IfOk result (λ _. noted self.old.lines.items number (Ok (Some line)) ≡ Ok self.new.lines.items) }
-        ensures counted { IfOk result (λ _. AreCounted self.new.counts self.new.lines.items) }
+        requires room { limit < 1048576 }
+        ensures noted { IfOk result (λ _. (before : List NumberedLine) → IsTaken self.old.rounds.items self.old.counts limit before →
+            IsNoted before number (Some line) self.new.rounds.items self.new.counts (limit + 1)) }
         ensures within { IfOk result (λ _. IsWithin self.new.counts (limit + 1)) }
-        ensures fault { IfErr result (IsRefusedAs (noted self.old.lines.items number (Ok (Some line)))) }
-        ensures few { vec_len self.new.lines ≤ vec_len self.old.lines + 1 }
+        ensures fault { IfErr result (λ no. (before : List NumberedLine) → IsTaken self.old.rounds.items self.old.counts limit before →
+            IsRefusedAs (noted before number (Ok (Some line))) no) }
     {
         match self.counts.cause(line) {
             Some(cause) => Err(ScriptNo::Fault(ScriptFault {
@@ -71,19 +79,19 @@ impl Taken {
                 cause,
             })),
             None => {
-                self.lines.push(NumberedLine { number, line })?;
+                add_line(alloc, &mut self.rounds, number, line)?;
                 self.counts = self.counts.after(line, limit);
                 Ok(())
             }
         }
     }
 
-    /// The lines of a text that ends here.
-    fn end(self, number: u32) -> Result<Vec<NumberedLine>, ScriptNo>
-        requires { AreCounted self.counts self.lines.items }
-        ensures ended { IfOk result (λ lines. ended self.lines.items number ≡ Ok lines.items) }
-        ensures few { IfOk result (λ lines. vec_len lines ≡ vec_len self.lines) }
-        ensures fault { IfErr result (IsRefusedAs (ended self.lines.items number)) }
+    /// The rounds of a text that ends here.
+    fn end(self, number: u32, limit: u32) -> Result<Vec<Round>, ScriptNo>
+        ensures ended { IfOk result (λ rounds. (before : List NumberedLine) → IsTaken self.rounds.items self.counts limit before →
+            (ended before number ≡ Ok before) × (rounds.items ≡ rounds_of before)) }
+        ensures fault { IfErr result (λ no. (before : List NumberedLine) → IsTaken self.rounds.items self.counts limit before →
+            IsRefusedAs (ended before number) no) }
     {
         if self.counts.depth != 0 {
             let cause = Cause::Unbalanced;
@@ -92,23 +100,23 @@ impl Taken {
                 cause,
             }));
         }
-        Ok(self.lines)
+        Ok(self.rounds)
     }
 }
 
-/// The lines of a text that are not skipped, and how many names it has.
+/// The rounds of a text, and how many names it has.
 #[derive(Drop)]
-pub struct ReadLines {
-    pub lines: Vec<NumberedLine>,
+pub struct ReadText {
+    pub rounds: Vec<Round>,
     pub names: u32,
 }
 
 /// Reads the lines of a text that is not too long.
-pub fn read_lines(alloc: Global, text: &[u8]) -> Result<ReadLines, ScriptNo>
+pub fn read_lines(alloc: Global, text: &[u8]) -> Result<ReadText, ScriptNo>
     requires { length text.now ≤ 1048576 }
-    ensures lines { IfOk result (λ read. lines_read text.now ≡ Ok read.lines.items) }
+    ensures rounds { IfOk result (λ read. (lines : List NumberedLine) × (lines_read text.now ≡ Ok lines) × (read.rounds.items ≡ rounds_of lines)
+        × (length lines ≤ 1048576)) }
     ensures names { IfOk result (λ read. read.names ≡ different (names_in (lines_of text.now))) }
-    ensures few { IfOk result (λ read. vec_len read.lines ≤ 1048576) }
     ensures fault { IfErr result (IsRefusedAs (lines_read text.now)) }
 {
     let mut names = Names::new(alloc);
@@ -118,11 +126,11 @@ pub fn read_lines(alloc: Global, text: &[u8]) -> Result<ReadLines, ScriptNo>
     while !rest.is_empty() {
         let (front, behind) = cut_line(rest);
         let said = say(&mut names, number + 1, front)?;
-        taken.note(number + 1, said, number)?;
+        taken.note(alloc, number + 1, said, number)?;
         number += 1;
         rest = behind;
     }
-    let lines = taken.end(number + 1)?;
+    let rounds = taken.end(number + 1, number)?;
     let names = names.count() as u32;
-    Ok(ReadLines { lines, names })
+    Ok(ReadText { rounds, names })
 }

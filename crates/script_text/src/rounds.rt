@@ -1,11 +1,8 @@
-// Lines as rounds, threads and commands.
-ghost use Rattle.std.specs.Prelude.{◌≡◌, ◌+◌, ◌<◌, ◌≤◌, List, [], ◌∷◌, length, map, IfOk};
-ghost use Rattle.std.specs.List.{position, position_or_len, filter_map};
-ghost use Rattle.script_text.specs.Pieces.{cut_before};
-ghost use Rattle.script_text.specs.Order.{is_round, is_thread};
-ghost use Rattle.script_text.specs.Rounds.{command_line, first_number, thread_of, inside_round, threads_of, rounds_of};
+// Rounds, threads and commands, line by line.
+ghost use Rattle.std.specs.Prelude.{◌≡◌, ℕ, ◌<◌, [], ◌∷◌, ◌++◌, length, slice_index_or, IfOk};
+ghost use Rattle.script_text.specs.Grown.{change_last, thread_with, thread_from, round_with, rounds_with};
 
-use crate::commands::{CommandLine, Line, NumberedLine};
+use crate::commands::{CommandLine, Line};
 use std::alloc::{AllocError, Global};
 use std::marker::Model;
 
@@ -41,166 +38,111 @@ impl Model for Round {
     ghost invariant = { λ r. length r.threads.items ≤ 1048576 };
 }
 
-/// The rounds of lines.
-pub fn rounds_in(alloc: Global, lines: &[NumberedLine]) -> Result<Vec<Round>, AllocError>
-    requires { length lines.now ≤ 1048576 }
-    ensures rounds { IfOk result (λ rounds. rounds.items ≡ rounds_of lines.now) }
-    ensures few { IfOk result (λ rounds. length rounds.items ≤ 1048576) }
-{
-    let mut rounds = Vec::new(alloc);
-    let mut rest = lines;
-    while !rest.is_empty() {
-        let (piece, others) = cut_round(rest);
-        rounds.push(round_in(alloc, piece)?)?;
-        rest = others;
+impl Thread {
+    /// A thread that begins with a line, with room for a command.
+    fn new(alloc: Global, line: u32) -> Result<Thread, AllocError>
+        ensures { IfOk result (λ thread. thread ≡ record { line = line; commands = [] }) }
+    {
+        let commands = Vec::with_capacity(alloc, 1)?;
+        Ok(Thread { line, commands })
     }
-    Ok(rounds)
-}
 
-fn round_in(alloc: Global, lines: &[NumberedLine]) -> Result<Round, AllocError>
-    requires { length lines.now ≤ 1048576 }
-    ensures { IfOk result (λ round. round ≡ threads_of lines.now) }
-{
-    let threads = threads_in(alloc, without_round(lines))?;
-    Ok(Round { threads })
-}
-
-fn threads_in(alloc: Global, lines: &[NumberedLine]) -> Result<Vec<Thread>, AllocError>
-    requires { length lines.now ≤ 1048576 }
-    ensures threads { IfOk result (λ threads. threads.items ≡ map thread_of (cut_before is_thread lines.now)) }
-    ensures few { IfOk result (λ threads. length threads.items ≤ 1048576) }
-{
-    // Most rounds have one thread.
-    let mut threads = Vec::with_capacity(alloc, lines.len().min(1))?;
-    let mut rest = lines;
-    while !rest.is_empty() {
-        let (piece, others) = cut_thread(rest);
-        threads.push(thread_in(alloc, piece)?)?;
-        rest = others;
-    }
-    Ok(threads)
-}
-
-fn thread_in(alloc: Global, lines: &[NumberedLine]) -> Result<Thread, AllocError>
-    ensures { IfOk result (λ thread. thread ≡ thread_of lines.now) }
-{
-    let line = number_of_first(lines);
-    let commands = commands_in(alloc, lines)?;
-    Ok(Thread { line, commands })
-}
-
-fn number_of_first(lines: &[NumberedLine]) -> u32
-    ensures { result ≡ first_number lines.now }
-{
-    match lines {
-        [first, ..] => first.number,
-        [] => 0,
+    fn add(&mut self, command: CommandLine) -> Result<(), AllocError>
+        ensures { IfOk result (λ _. self.new ≡ thread_with command self.old) }
+    {
+        self.commands.push(command)?;
+        Ok(())
     }
 }
 
-fn commands_in(alloc: Global, lines: &[NumberedLine]) -> Result<Vec<CommandLine>, AllocError>
-    ensures { IfOk result (λ commands. commands.items ≡ filter_map command_line lines.now) }
-{
-    let mut commands = Vec::with_capacity(alloc, lines.len())?;
-    for line in lines {
-        if let Some(command) = command_on(line) {
-            commands.push(command)?;
+impl Round {
+    /// A round with no thread, and with room for one.
+    fn new(alloc: Global) -> Result<Round, AllocError>
+        ensures { IfOk result (λ round. round ≡ []) }
+    {
+        let threads = Vec::with_capacity(alloc, 1)?;
+        Ok(Round { threads })
+    }
+
+    fn add_thread(&mut self, thread: Thread) -> Result<(), AllocError>
+        requires { length self.old < 1048576 }
+        ensures { IfOk result (λ _. self.new ≡ self.old ++ thread ∷ []) }
+    {
+        self.threads.push(thread)?;
+        Ok(())
+    }
+
+    /// Adds a command to the last thread, or to a first one, which begins with it.
+    fn add_command(&mut self, alloc: Global, line: CommandLine) -> Result<(), AllocError>
+        requires { length self.old < 1048576 }
+        ensures { IfOk result (λ _. self.new ≡ change_last (thread_with line) (thread_from line) self.old) }
+    {
+        if self.threads.is_empty() {
+            let mut thread = Thread::new(alloc, line.line)?;
+            thread.add(line)?;
+            return self.add_thread(thread);
+        }
+        let last = self.threads.len() - 1;
+        self.threads[last].add(line)?;
+        Ok(())
+    }
+
+    /// Adds a line that does not begin a round.
+    fn add(&mut self, alloc: Global, number: u32, line: Line) -> Result<(), AllocError>
+        requires { length self.old < 1048576 }
+        ensures { IfOk result (λ _. self.new ≡ round_with number line self.old) }
+    {
+        match line {
+            Line::Round => Ok(()),
+            Line::Thread => self.add_thread(Thread::new(alloc, number)?),
+            Line::Runs(command) => {
+                let line = CommandLine {
+                    line: number,
+                    command,
+                };
+                self.add_command(alloc, line)
+            }
         }
     }
-    Ok(commands)
 }
 
-fn command_on(line: &NumberedLine) -> Option<CommandLine>
-    ensures { result ≡ command_line line.now }
+/// Adds a line to the rounds of the lines before it.
+pub fn add_line(
+    alloc: Global,
+    rounds: &mut Vec<Round>,
+    number: u32,
+    line: Line,
+) -> Result<(), AllocError>
+    requires { (i : ℕ) → length (slice_index_or rounds.old.items i []) < 1048576 }
+    ensures { IfOk result (λ _. rounds.new.items ≡ rounds_with number line rounds.old.items) }
 {
-    match line.line {
-        Line::Runs(command) => Some(CommandLine {
-            line: line.number,
-            command,
-        }),
-        Line::Round | Line::Thread => None,
+    match line {
+        Line::Round => {
+            rounds.push(Round::new(alloc)?)?;
+            Ok(())
+        }
+        Line::Thread => add_in_last(alloc, rounds, number, Line::Thread),
+        Line::Runs(command) => add_in_last(alloc, rounds, number, Line::Runs(command)),
     }
 }
 
-fn begins_round(line: &NumberedLine) -> bool
-    ensures { result ≡ is_round line.now }
+/// Adds a line to the last round, or to a first one.
+fn add_in_last(
+    alloc: Global,
+    rounds: &mut Vec<Round>,
+    number: u32,
+    line: Line,
+) -> Result<(), AllocError>
+    requires { (i : ℕ) → length (slice_index_or rounds.old.items i []) < 1048576 }
+    ensures { IfOk result (λ _. rounds.new.items ≡ change_last (round_with number line) (round_with number line []) rounds.old.items) }
 {
-    match line.line {
-        Line::Round => true,
-        Line::Thread | Line::Runs(_) => false,
+    if rounds.is_empty() {
+        let mut round = Round::new(alloc)?;
+        round.add(alloc, number, line)?;
+        rounds.push(round)?;
+        return Ok(());
     }
-}
-
-fn begins_thread(line: &NumberedLine) -> bool
-    ensures { result ≡ is_thread line.now }
-{
-    match line.line {
-        Line::Thread => true,
-        Line::Round | Line::Runs(_) => false,
-    }
-}
-
-/// The lines of a round without its `round`.
-fn without_round(lines: &[NumberedLine]) -> &[NumberedLine]
-    ensures inside { result.now ≡ inside_round lines.now }
-    ensures few { length result.now ≤ length lines.now }
-{
-    match lines {
-        [first, behind @ ..] => { if begins_round(first) { behind } else { lines } }
-        [] => lines,
-    }
-}
-
-fn next_round(lines: &[NumberedLine]) -> Option<usize>
-    ensures { result ≡ position is_round lines.now }
-{
-    lines.iter().position(|l| begins_round(l))
-}
-
-fn next_thread(lines: &[NumberedLine]) -> Option<usize>
-    ensures { result ≡ position is_thread lines.now }
-{
-    lines.iter().position(|l| begins_thread(l))
-}
-
-fn before_round(lines: &[NumberedLine]) -> usize
-    ensures place { result ≡ position_or_len is_round lines.now }
-    ensures within { result ≤ length lines.now }
-{
-    match next_round(lines) {
-        Some(at) => at,
-        None => lines.len(),
-    }
-}
-
-fn before_thread(lines: &[NumberedLine]) -> usize
-    ensures place { result ≡ position_or_len is_thread lines.now }
-    ensures within { result ≤ length lines.now }
-{
-    match next_thread(lines) {
-        Some(at) => at,
-        None => lines.len(),
-    }
-}
-
-/// The first round of lines, and the lines of the others.
-fn cut_round(lines: &[NumberedLine]) -> (&[NumberedLine], &[NumberedLine])
-    requires { 0 < length lines.now }
-    ensures cut { cut_before is_round lines.now ≡ result.0.now ∷ cut_before is_round result.1.now }
-    ensures fewer { length result.1.now < length lines.now }
-    ensures few { length result.0.now ≤ length lines.now }
-{
-    let (_, behind) = lines.split_at(1);
-    let end = before_round(behind) + 1;
-    lines.split_at(end)
-}
-
-fn cut_thread(lines: &[NumberedLine]) -> (&[NumberedLine], &[NumberedLine])
-    requires { 0 < length lines.now }
-    ensures cut { cut_before is_thread lines.now ≡ result.0.now ∷ cut_before is_thread result.1.now }
-    ensures fewer { length result.1.now < length lines.now }
-{
-    let (_, behind) = lines.split_at(1);
-    let end = before_thread(behind) + 1;
-    lines.split_at(end)
+    let last = rounds.len() - 1;
+    rounds[last].add(alloc, number, line)?;
+    Ok(())
 }

@@ -8,7 +8,7 @@ ghost use Rattle.script_text.specs.Unbuilt.{first_unbuilt};
 use crate::commands::{Command, CommandLine};
 use crate::faults::{Cause, ScriptFault, ScriptNo};
 use crate::reading::read_lines;
-use crate::rounds::{Round, Thread, rounds_in};
+use crate::rounds::{Round, Thread};
 use crate::unbuilt::unbuilt_in;
 use std::alloc::{AllocError, Global};
 use std::marker::Model;
@@ -45,9 +45,8 @@ pub fn read_script(alloc: Global, text: &[u8]) -> Result<Script, ScriptNo>
         return Err(ScriptNo::Fault(ScriptFault { line: 0, cause }));
     }
     let read = read_lines(alloc, text)?;
-    let rounds = rounds_in(alloc, read.lines.as_slice())?;
     Ok(Script {
-        rounds,
+        rounds: read.rounds,
         names: read.names,
     })
 }

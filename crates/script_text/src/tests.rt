@@ -178,9 +178,11 @@ fn number_of(script: &Script, k: u32) -> u32 {
         return 99;
     }
     match script.command(0, 0, k) {
-        Some(Command::Size {
-            target: Target::Name(number),
-        }) => number,
+        Some(
+            Command::Size {
+                target: Target::Name(number),
+            },
+        ) => number,
         _ => 99,
     }
 }

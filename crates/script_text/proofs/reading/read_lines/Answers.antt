@@ -13,7 +13,7 @@ returns-in_err-said-clause-fault c =
     let lines = lines_of c.args.text.now in
     let some = not_empty _ rest c.is_empty.ensures c.loop-rest-test.true in
     let behind = c.cut_line.result.1.now in
-    rw (p.1, p.2) (refused_along _ _ _ i.reading (unsaid_here lines c.loop-rest.taken.lines.items c.loop-rest.number rest c.cut_line.result.0.now behind _ some c.cut_line.ensures.front c.cut_line.ensures.behind i.rest
+    rw (p.1, p.2) (refused_along _ _ _ i.taken.2 (unsaid_here lines i.taken.0 c.loop-rest.number rest c.cut_line.result.0.now behind _ some c.cut_line.ensures.front c.cut_line.ensures.behind i.rest
     (c.in_err-said.ensures.fault (names_in (take c.loop-rest.number lines)) (names_in (lines_of behind)) i.named)))
 
 pub returns-in_err-note-clause-fault : goal.returns-in_err-note-clause-fault
@@ -26,7 +26,8 @@ returns-in_err-note-clause-fault c =
     let behind = c.cut_line.result.1.now in
     let said = said_here lines c.loop-rest.number rest c.cut_line.result.0.now behind c.in_ok-said.said some c.cut_line.ensures.front c.cut_line.ensures.behind i.rest
     (c.in_ok-said.ensures.said (names_in (take c.loop-rest.number lines)) (names_in (lines_of behind)) i.named) in
-    rw (p.1, p.2) (refused_along _ _ _ i.reading (line_refused (names_in lines) c.loop-rest.taken.lines.items c.loop-rest.number rest c.cut_line.result.0.now c.in_ok-said.said _ some c.cut_line.ensures.front said c.in_err-note.ensures.fault))
+    rw (p.1, p.2) (refused_along _ _ _ i.taken.2 (line_refused (names_in lines) i.taken.0 c.loop-rest.number rest c.cut_line.result.0.now c.in_ok-said.said _ some c.cut_line.ensures.front said
+    (c.in_err-note.ensures.fault i.taken.0 i.taken.1)))
 
 pub loop-rest-preserved : goal.loop-rest-preserved
 loop-rest-preserved c =
@@ -40,14 +41,13 @@ loop-rest-preserved c =
     let at = here lines number rest front behind some c.cut_line.ensures.front c.cut_line.ensures.behind i.rest in
     let said = said_here lines number rest front behind c.in_ok-said.said some c.cut_line.ensures.front c.cut_line.ensures.behind i.rest
     (c.in_ok-said.ensures.said (names_in (take number lines)) (names_in (lines_of behind)) i.named) in
+    let n = c.in_ok-note.ensures.noted i.taken.0 i.taken.1 in
     record {
       rest = sym (drop_step lines number front (lines_of behind) at);
-      reading = line_taken (names_in lines) c.loop-rest.taken.lines.items _ number rest front behind c.in_ok-said.said some c.cut_line.ensures.front c.cut_line.ensures.behind said c.in_ok-note.ensures.noted ∙ i.reading;
+      taken = (n.after, n.taken, line_taken (names_in lines) i.taken.0 n.after number rest front behind c.in_ok-said.said some c.cut_line.ensures.front c.cut_line.ensures.behind said n.is_noted ∙ i.taken.2);
       named = rw (names_push lines number front (lines_of behind) at) (c.in_ok-said.ensures.numbered (names_in (take number lines)) i.named);
-      counted = c.in_ok-note.ensures.counted;
       within = c.in_ok-note.ensures.within;
       few_names = omega (arith, i.few_names, c.say.ensures.count);
-      few = omega (arith, i.few, c.note.ensures.few);
       room = rw c.cut_line.ensures.behind (omega (arith, shorter rest some, i.room));
     }
 

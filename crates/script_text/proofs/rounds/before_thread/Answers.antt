@@ -1,7 +1,0 @@
-use Rattle.std.proofs.Common.{◌∙◌, sym}
-use Rattle.script_text.specs.Order.{is_thread}
-use Rattle.script_text.proofs.PieceLemmas.{no_place}
-use Rattle.script_text.proofs.rounds.before_thread.Goals as goal
-
-pub returns-in-None-clause-place : goal.returns-in-None-clause-place
-returns-in-None-clause-place c = no_place is_thread c.args.lines.now (sym c.next_thread.ensures ∙ c.in-None.is)

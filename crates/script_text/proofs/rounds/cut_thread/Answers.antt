@@ -1,6 +1,0 @@
-use Rattle.script_text.specs.Order.{is_thread}
-use Rattle.script_text.proofs.PieceLemmas.{cut_at}
-use Rattle.script_text.proofs.rounds.cut_thread.Goals as goal
-
-pub returns-clause-cut : goal.returns-clause-cut
-returns-clause-cut c = cut_at is_thread c.args.lines.now c.split_at.result.1.now _ _ _ c.requires c.split_at.ensures.back c.before_thread-end.ensures.place c.split_at-2.ensures.front c.split_at-2.ensures.back
