@@ -1,0 +1,4 @@
+mod Tokens
+mod Handing
+mod Taken
+mod Placed
