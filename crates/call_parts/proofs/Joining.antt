@@ -12,8 +12,8 @@ use Rattle.heap_model.specs.History.{own, configuration_of, configuration_after,
 use Rattle.call_laws.specs.Within.{by_all}
 use Rattle.claim_rule.specs.Entries.{IsSettingOf, entry, is_by}
 use Rattle.claim_rule.proofs.Lists.{prefix_self, prefix_trans, own-append, own_by, after-append, setting_less}
-use Rattle.heap_gate.specs.Token.{Token, now, with_prepared, rested}
-use Rattle.heap_gate.specs.Calls.{Does}
+use Rattle.heap_gate.specs.Token.{Token, now}
+use Rattle.heap_gate.specs.Calls.{Does, with_prepared, rested}
 use Rattle.call_parts.specs.Calls.{GoesOn, all_own}
 use Rattle.call_parts.proofs.Own.{call_from, call_from-append, calls_by}
 

@@ -1,3 +1,4 @@
 pub mod Own
 pub mod Joining
 pub mod Serving
+pub mod Taken

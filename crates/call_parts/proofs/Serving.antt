@@ -1,5 +1,5 @@
 -- A call from its Begin to its answer.
-use Rattle.std.proofs.Common.{◌≡◌, ℕ, Bool, true, false, not, ◌&&◌, List, [], ◌∷◌, ◌++◌, Option, Some, None, refl, sym, ap, ◌∙◌, subst}
+use Rattle.std.proofs.Common.{◌≡◌, ℕ, Bool, true, false, not, cond, ◌&&◌, List, [], ◌∷◌, ◌++◌, Option, Some, None, refl, sym, ap, ◌∙◌, subst}
 use Rattle.std.specs.List.{list_all}
 use Rattle.std.proofs.lemmas.List.{append-nil}
 use Rattle.std.proofs.lemmas.Bool.{and_from, and_parts}
@@ -11,7 +11,7 @@ use Rattle.heap_model.specs.State.{Setting}
 use Rattle.heap_model.specs.CallState.{CallState, Configuration, not_begun}
 use Rattle.heap_model.specs.Legal.{is_begin, call_after}
 use Rattle.heap_model.specs.History.{own, configuration_of}
-use Rattle.heap_model.specs.Shape.{Answer, HasActs, shape_of}
+use Rattle.heap_model.specs.Shape.{Answer, HasActs, shape_of, is_left_out}
 use Rattle.call_laws.specs.Within.{by_all, IsWithin}
 use Rattle.call_laws.proofs.Told.{own_acts_answer}
 use Rattle.claim_rule.specs.Entries.{IsSettingOf, IsLegalWith, entry}
@@ -23,13 +23,13 @@ use Rattle.call_parts.proofs.Joining.{goes_then, called_since, setting_before}
 
 ---- Shapes of lists that are joined
 
+shape_joined : (b : Bool) (x : Act) (xs ys zs : List Act) → zs ≡ xs ++ ys → cond b zs (x ∷ zs) ≡ cond b xs (x ∷ xs) ++ ys
+shape_joined true x xs ys zs e = e
+shape_joined false x xs ys zs e = ap (λ (l : List Act). x ∷ l) e
+
 pub shape-append : (xs ys : List Act) → shape_of (xs ++ ys) ≡ shape_of xs ++ shape_of ys
 shape-append [] ys = refl
-shape-append (x ∷ xs) ys = joined (Rattle.heap_model.specs.Shape.is_left_out x)
-  where
-    joined : (b : Bool) → Rattle.std.specs.Prelude.cond b (shape_of (xs ++ ys)) (x ∷ shape_of (xs ++ ys)) ≡ Rattle.std.specs.Prelude.cond b (shape_of xs) (x ∷ shape_of xs) ++ shape_of ys
-    joined true = shape-append xs ys
-    joined false = ap (λ (l : List Act). x ∷ l) (shape-append xs ys)
+shape-append (x ∷ xs) ys = shape_joined (is_left_out x) x (shape_of xs) (shape_of ys) (shape_of (xs ++ ys)) (shape-append xs ys)
 
 abbrev pub none_begins : List Act → Bool
 none_begins rest = list_all (λ act. not (is_begin act)) rest

@@ -1,6 +1,6 @@
 -- What a state of a lock stands for: what the layer in it does.
-use Rattle.call_parts.specs.declared.State.{State}
-use Rattle.call_parts.specs.declared.State.TheVariants as states
+use Rattle.call_parts.specs.declared.state.State.{State}
+use Rattle.call_parts.specs.declared.state.State.TheVariants as states
 use Rattle.heap_model.specs.Layers.{LayerState}
 use Rattle.backend_fit.specs.Kept as back
 use Rattle.vs_layer.specs.Standing as vs

@@ -12,6 +12,7 @@ ghost use Rattle.heap_gate.specs.Calls.{HasTaken, HasMissed, HasGiven, IsUnder};
 ghost use Rattle.backend_fit.specs.Kept as backs;
 ghost use Rattle.large_blocks.specs.Table as larges;
 ghost use Rattle.vs_layer.specs.Standing as vss;
+ghost use Rattle.call_parts.specs.States.{layer_of};
 
 use backend_fit::Back;
 use heap_gate::{Caller, Heap, give_lock, give_lock_denying, take_lock};
@@ -33,6 +34,17 @@ impl Stands for State {
     ghost stands = { layer_of };
 }
 
+// The layer in a state of its lock.
+fn vs_of(state: State) -> Vs
+    requires { (layer_of state).lock ≡ whats.Vs }
+    ensures { layer_of state ≡ vss.layer_of result }
+{
+    match state {
+        State::Vs(vs) => vs,
+        State::Back(_) | State::Large(_) => unreachable!(),
+    }
+}
+
 /// Takes the lock of the variable-size layer with its state, or finds that another caller has it.
 pub fn take_vs(heap: &Heap<State>, c: &mut Caller<State>) -> Result<Vs, Busy>
     requires table { c.old.table ≡ heap.now.table }
@@ -43,8 +55,7 @@ pub fn take_vs(heap: &Heap<State>, c: &mut Caller<State>) -> Result<Vs, Busy>
     ensures busy { IfErr result (λ b. HasMissed c.old c.new whats.Vs b.what b.word) }
 {
     match take_lock(heap, c, What::Vs) {
-        Ok(State::Vs(vs)) => Ok(vs),
-        Ok(_) => unreachable!(),
+        Ok(state) => Ok(vs_of(state)),
         Err(busy) => Err(busy),
     }
 }
@@ -75,6 +86,17 @@ pub fn give_vs_denying(heap: &Heap<State>, c: &mut Caller<State>, vs: Vs, addr: 
     give_lock_denying(heap, c, What::Vs, State::Vs(vs), addr);
 }
 
+// The layer in a state of its lock.
+fn back_of(state: State) -> Back
+    requires { (layer_of state).lock ≡ whats.Back }
+    ensures { layer_of state ≡ backs.layer_of result }
+{
+    match state {
+        State::Back(back) => back,
+        State::Vs(_) | State::Large(_) => unreachable!(),
+    }
+}
+
 /// Takes the lock of the back end with its state, or finds that another caller has it.
 pub fn take_back(heap: &Heap<State>, c: &mut Caller<State>) -> Result<Back, Busy>
     requires table { c.old.table ≡ heap.now.table }
@@ -85,8 +107,7 @@ pub fn take_back(heap: &Heap<State>, c: &mut Caller<State>) -> Result<Back, Busy
     ensures busy { IfErr result (λ b. HasMissed c.old c.new whats.Back b.what b.word) }
 {
     match take_lock(heap, c, What::Back) {
-        Ok(State::Back(back)) => Ok(back),
-        Ok(_) => unreachable!(),
+        Ok(state) => Ok(back_of(state)),
         Err(busy) => Err(busy),
     }
 }
@@ -119,6 +140,17 @@ pub fn give_back_denying(heap: &Heap<State>, c: &mut Caller<State>, back: Back, 
     give_lock_denying(heap, c, What::Back, State::Back(back), addr);
 }
 
+// The layer in a state of its lock.
+fn large_of(state: State) -> Large
+    requires { (layer_of state).lock ≡ whats.Large }
+    ensures { layer_of state ≡ larges.layer_of result }
+{
+    match state {
+        State::Large(large) => large,
+        State::Vs(_) | State::Back(_) => unreachable!(),
+    }
+}
+
 /// Takes the lock of the large area with its state, or finds that another caller has it.
 pub fn take_large(heap: &Heap<State>, c: &mut Caller<State>) -> Result<Large, Busy>
     requires table { c.old.table ≡ heap.now.table }
@@ -129,8 +161,7 @@ pub fn take_large(heap: &Heap<State>, c: &mut Caller<State>) -> Result<Large, Bu
     ensures busy { IfErr result (λ b. HasMissed c.old c.new whats.Large b.what b.word) }
 {
     match take_lock(heap, c, What::Large) {
-        Ok(State::Large(large)) => Ok(large),
-        Ok(_) => unreachable!(),
+        Ok(state) => Ok(large_of(state)),
         Err(busy) => Err(busy),
     }
 }
