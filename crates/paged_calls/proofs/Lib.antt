@@ -1,4 +1,2 @@
 mod Tokens
 mod Handing
-mod Taken
-mod Placed

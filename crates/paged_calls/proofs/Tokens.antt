@@ -1,5 +1,6 @@
 -- The token of a caller behind what it prepares, and behind the steps of a part.
-use Rattle.std.proofs.Common.{◌≡◌, ℕ, Bool, true, false, not, ◌&&◌, ◌==◌, List, [], ◌∷◌, ◌++◌, Some, refl, sym, ap, ◌∙◌, subst, eq-eqb}
+use Rattle.std.proofs.Common.{◌≡◌, ℕ, ◌+◌, ◌<◌, Bool, true, false, not, ◌&&◌, ◌==◌, List, [], ◌∷◌, ◌++◌, length, get_or, take, drop, Some, refl, sym, ap, ◌∙◌, subst, arith, eq-eqb, length-append}
+use Rattle.std.proofs.lemmas.List.{take-append-drop, drop_more}
 use Rattle.std.specs.List.{list_all}
 use Rattle.std.proofs.lemmas.Bool.{and_from, and_parts, true≢false}
 use Rattle.heap_model.specs.declared.Act.{Act}
@@ -14,7 +15,7 @@ use Rattle.heap_model.specs.Legal.{may_follow, after, is_begin}
 use Rattle.heap_model.specs.History.{configuration_after, configuration_of}
 use Rattle.heap_model.specs.Agreement.{is_stable}
 use Rattle.heap_model.specs.Shape.{shape_of}
-use Rattle.claim_rule.specs.Entries.{entry, leaves_words, may_prepare, are_prepared}
+use Rattle.claim_rule.specs.Entries.{IsSettingOf, entry, leaves_words, may_prepare, are_prepared}
 use Rattle.claim_rule.specs.Home.{slot_of}
 use Rattle.claim_rule.proofs.Lists.{after-append}
 use Rattle.lock_steps.specs.Locks.{owed_with}
@@ -51,6 +52,21 @@ next_prepared s c (a ∷ first) act rest h =
 pub all_then_one : (c : Token) (first : List Act) (act : Act) → with_all c (first ++ act ∷ []) ≡ with_prepared (with_all c first) act
 all_then_one c [] act = refl
 all_then_one c (a ∷ first) act = all_then_one (with_prepared c a) first act
+
+pub length_all : (c : Token) (rest : List Act) → length (with_all c rest).prepared ≡ length c.prepared + length rest
+length_all c [] = omega arith
+length_all c (act ∷ rest) =
+    let more = length_all (with_prepared c act) rest in
+    let one = length-append c.prepared (entry c.number act ∷ []) in
+    omega (arith, more, one)
+
+pub setting_before_all : (s : Setting) (c : Token) (rest : List Act) → IsSettingOf (with_all c rest).opening (with_all c rest).roll s → IsSettingOf c.opening c.roll s
+setting_before_all s c [] q = q
+setting_before_all s c (act ∷ rest) q = setting_before_all s (with_prepared c act) rest q
+
+-- the entry of a list at a number, behind those before it
+pub listed : (rest : List Act) (i : ℕ) (d : Act) → i < length rest → rest ≡ take i rest ++ get_or rest i d ∷ drop (i + 1) rest
+listed rest i d lt = sym (take-append-drop i rest) ∙ ap (λ (ys : List Act). take i rest ++ ys) (drop_more rest i d lt)
 
 ---- Where the caller stands
 
