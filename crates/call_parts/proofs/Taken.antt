@@ -25,4 +25,5 @@ module _ {T : Type 0} (tells : T → LayerState) (old new : Token) (state : T) w
     stands = x.stands;
     tells_it = λ s q. subst (λ (t : LayerState). Tells what new.opening (now s new).state t) e (x.tells_it s q);
     guarded = x.guarded;
+    used = x.used;
   }

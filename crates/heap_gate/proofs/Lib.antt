@@ -8,6 +8,7 @@ pub mod Taking
 pub mod SearchCount
 pub mod Meeting
 pub mod Ending
+pub mod FreeVs
 pub mod Counting
 pub mod Denying
 pub mod Turns

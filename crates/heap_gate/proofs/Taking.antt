@@ -12,7 +12,7 @@ use Rattle.heap_model.specs.Layers.{LayerState}
 use Rattle.heap_model.specs.State.{Setting, hands}
 use Rattle.heap_model.specs.Stay.{for_some}
 use Rattle.heap_model.specs.CallState.{Configuration}
-use Rattle.heap_model.specs.Legal.{may, may_follow, after}
+use Rattle.heap_model.specs.Legal.{may, may_follow, after, leaves_whole}
 use Rattle.heap_model.specs.History.{configuration_of}
 use Rattle.heap_model.specs.Agreement.{AgreesFor, revealed}
 use Rattle.heap_model.proofs.GateSound.{row_of}
@@ -30,6 +30,7 @@ use Rattle.heap_gate.specs.Calls.{IsGuarded, Stands, HasTaken, HasMissed, HasGiv
 use Rattle.heap_gate.proofs.Standing.{at_taken, at_missed, at_given}
 use Rattle.heap_gate.proofs.Tokens.{Behind, Acted, acted, acted_once, as_was, faced, marks, moved_by, at_behind, with_left, take_shows, same_in_hand, guarded_by}
 use Rattle.heap_gate.proofs.Acting.{runs_of}
+use Rattle.heap_gate.proofs.FreeVs.{taken_whole}
 
 ---- The word of a lock that another holds
 
@@ -119,6 +120,8 @@ module _ {T : Type 0} (z : TableId) (me : Me (Option T) View) (f : Face) (slot :
       stands = taking.stands;
       tells_it = with_left z me f slot stream h me' left le (λ s m. Tells what me'.0.opening m.state (stands state)) tells;
       guarded = with_left z me f slot stream h me' left le (λ s m. IsGuarded f.number (ready_after s me.0 f.prepared) m) (λ s q. guarded_by s f.number me.0 me'.0 f.prepared what (go.goes s q));
+      used = λ e. with_left z me f slot stream h me' left le (λ s m. leaves_whole m.state whats.Vs ≡ true)
+          (taken_whole f.number me.0 me'.0 f.prepared (subst (λ (x : What). Goes f.number me.0 me'.0 f.prepared (entry f.number (acts.TakeLock x) ∷ [])) e go));
     }
 
   ---- .. or missing

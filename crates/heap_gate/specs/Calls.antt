@@ -15,7 +15,7 @@ use Rattle.heap_model.specs.State.{hands, holds}
 use Rattle.heap_model.specs.Ranges.{vs_spans}
 use Rattle.heap_model.specs.Stay.{for_some}
 use Rattle.heap_model.specs.CallState.{Configuration, Nothing}
-use Rattle.heap_model.specs.Legal.{is_compact}
+use Rattle.heap_model.specs.Legal.{is_compact, leaves_whole}
 use Rattle.heap_model.specs.History.{configuration_after, own}
 use Rattle.heap_model.specs.Agreement.{AgreesFor, revealed}
 use Rattle.claim_rule.specs.declared.views.Owed.{Owed}
@@ -259,12 +259,13 @@ pub record IsShallower (old new : Token) : Type 0 where
 
 ---- The locks of the layers
 
--- the caller has taken a lock, and has the state of its slot, which tells what the lock guards
+-- the caller has taken a lock, and has the state of its slot, which tells what the lock guards; each span of VS has a place
 pub record HasTaken {T : Type 0} (tells : T → LayerState) (old new : Token) (what : What) (state : T) : Type 0 where
   pub reveals : Reveals old new (entry old.number (acts.TakeLock what) ∷ [])
   pub stands : Stands new (record (stance old) { out = slot_of what ∷ old.out; owes = owed_with what old.owes })
   pub tells_it : Always new (λ s. Tells what new.opening (now s new).state (tells state))
   pub guarded : Always new (λ s. IsGuarded old.number (now s old) (now s new))
+  pub used : what ≡ whats.Vs → Always new (λ s. leaves_whole (now s new).state whats.Vs ≡ true)
 
 -- .. or found that another caller has it
 pub record HasMissed (old new : Token) (what found : What) (word : ℕ) : Type 0 where

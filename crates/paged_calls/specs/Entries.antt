@@ -2,9 +2,10 @@
 use Rattle.std.specs.Prelude.{◌≡◌, ℕ, ◌/◌, Bool, true, false, is_some, nat_lt, List, [], ◌∷◌, ◌++◌, if◌then◌else◌}
 use Rattle.heap_model.specs.declared.Act.{Act}
 use Rattle.heap_model.specs.declared.Act.TheVariants as acts
+use Rattle.heap_model.specs.declared.Layer.{Layer}
 use Rattle.heap_model.specs.declared.Layer.TheVariants as layers
 use Rattle.heap_model.specs.Shape.{zeroing}
-use Rattle.heap_model.specs.State.{Place, Live, hands, is_layer, address}
+use Rattle.heap_model.specs.State.{Place, Live, InHand, in_hand, places_of, is_layer, address}
 use Rattle.heap_model.specs.CallState.{Configuration, caller_view}
 use Rattle.heap_model.specs.Legal.{may_touch, suits, with_status}
 use Rattle.heap_gate.specs.Token.{Token, Always, now}
@@ -24,15 +25,20 @@ block_acts reserved first n = if nat_lt (first / 256) reserved then back_acts fi
 
 ---- The block in hand
 
--- All that the caller has in hand is this place, which no lock of the front end guards, and which suits n bytes.
+-- what is in hand of a layer where that is one place
+abbrev pub holding : Place → Layer → List Place
+holding p layer = if is_layer layer p.layer then p ∷ [] else []
+
+-- All that the caller has in hand is this place, not one of the front end, which suits n bytes.
 pub record HasNew (c : Token) (p : Place) (addr n : ℕ) : Type 0 where
   pub at : address p ≡ addr
   pub suits_it : suits n p ≡ true
   pub behind : is_layer p.layer layers.Lfh ≡ false
+  pub status : p.status ≡ InHand c.number
   pub inside : c.inside ≡ true
   pub whole : c.whole ≡ true
   pub begun : is_some c.call ≡ true
-  pub hand : Always c (λ s. hands (now s c).state c.number ≡ p ∷ [])
+  pub hand : Always c (λ s. (layer : Layer) → in_hand c.number (places_of (now s c).state layer) ≡ holding p layer)
   pub open_to : Always c (λ s. may_touch (caller_view (now s c) c.number) p.layer ≡ true)
 
 -- .. zeroed, where that is asked
@@ -52,13 +58,13 @@ pub record IsSteady (old new : Token) : Type 0 where
   pub owes : new.owes ≡ old.owes
 
 -- its list goes on by these acts, and it stands as it did
-pub record HasAdded (old new : Token) (added : List Act) : Type 0 where
-  pub goes : GoesOn old new added
+pub record HasAdded (old new : Token) (rest : List Act) : Type 0 where
+  pub goes : GoesOn old new rest
   pub steady : IsSteady old new
 
 -- .. and has nothing prepared, nothing in hand, and these locks
-pub record HasEnded (old new : Token) (added : List Act) (out : List ℕ) : Type 0 where
-  pub added : HasAdded old new added
+pub record HasEnded (old new : Token) (rest : List Act) (out : List ℕ) : Type 0 where
+  pub added : HasAdded old new rest
   pub out_is : new.out ≡ out
   pub whole : new.whole ≡ true
   pub free : new.free ≡ true
