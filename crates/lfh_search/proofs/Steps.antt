@@ -27,13 +27,8 @@ use Rattle.claim_rule.proofs.Lists.{after-append, prefix_trans, setting_less}
 use Rattle.heap_gate.specs.Token.{Token, now}
 use Rattle.heap_gate.specs.Calls.{Does, Runs, Stands, stance}
 use Rattle.data_words.proofs.Copying.{does_then}
-use Rattle.lfh_search.specs.Acts.{by, is_reading, after_act, after_acts}
+use Rattle.lfh_search.specs.Acts.{by, is_reading, AreReadings, after_act, after_acts}
 use Rattle.lfh_search.specs.Standing.{key, IsSearching}
-
--- each act of the list belongs to a search
-abbrev pub AreReadings : List Act → Type 0
-AreReadings [] = Unit {0}
-AreReadings (act ∷ rest) = (is_reading act ≡ true) × AreReadings rest
 
 ---- Others leave the search of a caller
 

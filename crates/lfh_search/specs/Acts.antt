@@ -23,6 +23,11 @@ is_reading (acts.Lost head index) = true
 is_reading (acts.NoHint bucket slot) = true
 is_reading _ = false
 
+-- each act of the list is one of these
+abbrev pub AreReadings : List Act → Type 0
+AreReadings [] = Unit {0}
+AreReadings (act ∷ rest) = (is_reading act ≡ true) × AreReadings rest
+
 -- what such an act makes of a search
 abbrev pub after_act : SearchKey → Search → Act → Search
 after_act g f (acts.Saw head word bits) = after_saw g f head word bits

@@ -1,3 +1,6 @@
 pub mod Acts
 pub mod Standing
 pub mod Descriptors
+pub mod Courses
+pub mod Results
+pub mod Readings
