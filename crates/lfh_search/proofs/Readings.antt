@@ -11,7 +11,6 @@ use Rattle.heap_model.specs.State.{Area, Setting, is_entered}
 use Rattle.heap_model.specs.CallState.{Configuration, CallState, CallerView, Search, Stage, NotBegun, AtHint, FirstPass, SecondPass, SpanHistory, caller_view}
 use Rattle.heap_model.specs.Search.{SearchKey, search_key_of, first_word, next_word, last_read, head_of, goes_on, may_see, may_see_at, may_claim, onto_span, onto_span_at, after_saw, after_pick, has_not_begun}
 use Rattle.search_laws.specs.Reading.{word_behind}
-use Rattle.search_laws.proofs.Words.{word_behind_none}
 use Rattle.heap_soundness.proofs.Picks.{pick_below}
 use Rattle.step_parts.specs.Seen.{IsSeen}
 use Rattle.step_parts.specs.Claims.{MayClaim}
@@ -93,19 +92,11 @@ by_stage a r u v g head word SecondPass e h = rw e h
 
 module _ (a : Area) (r : SpanHistory) (u : Bool) (v : CallerView) (b t d : ℕ) (f : Search) (head k lost : ℕ) where
   -- the reading goes on with the word behind those that are dry
-  within : lost < 8 → v.call.search ≡ reading f head k lost → may_see a r u v (key b t d) head (word_behind (key b t d) k) ≡ true
+  pub within : lost < 8 → v.call.search ≡ reading f head k lost → may_see a r u v (key b t d) head (word_behind (key b t d) k) ≡ true
   within l e = ap (λ (w : CallerView). may_see a r u w (key b t d) head (word_behind (key b t d) k)) (seen_by v (reading f head k lost) e)
       ∙ and_from (nat_lt lost 8) _ (lt-ltb lost 8 l)
       (by_stage a r u (record v { call = record v.call { search = reading f head k lost } }) (key b t d) head (word_behind (key b t d) k) f.stage refl
       (and_from (word_behind (key b t d) k == word_behind (key b t d) k) _ (eq-eqb (word_behind (key b t d) k) (word_behind (key b t d) k) refl) (head_read f.stage head f.read)))
-
-  -- .. from the first on, where this may be read
-  pub may_read : (g : Search) → StandsIn f head k lost g → v.call.search ≡ g → lost < 8 → 0 < words_in_use b
-      → (v.call.search ≡ f → may_see a r u v (key b t d) head (first_word (key b t d)) ≡ true) → may_see a r u v (key b t d) head (word_behind (key b t d) k) ≡ true
-  may_read g (inr e) q l w first = within l (q ∙ e)
-  may_read g (inl (z, y, e)) q l w first =
-      ap (λ (x : ℕ). may_see a r u v (key b t d) head (word_behind (key b t d) x)) z
-      ∙ (ap (may_see a r u v (key b t d) head) (word_behind_none (key b t d) w) ∙ first (q ∙ e))
 
 -- the block that was picked may be claimed
 pub may_claim_picked : (f : Search) (head k lost i : ℕ) (g : Search) → g ≡ record (reading f head k lost) { picked = Some i } → may_claim g head i ≡ true
@@ -114,16 +105,14 @@ may_claim_picked f head k lost i g e = ap (λ (x : Search). may_claim x head i) 
 ---- What a caller owes for a step
 
 -- a reading
-pub sees : (s : Setting) (m : Configuration) (n b t d : ℕ) (f g : Search) (head k lost : ℕ) → IsSearching s m n b t d g → StandsIn f head k lost g → lost < 8 → 0 < words_in_use b → IsSeen m head b t
-    → ((m.now.calls n).search ≡ f → may_see m.state.back.area m.now.span_history (m.now.disturbed n) (caller_view m n) (key b t d) head (first_word (key b t d)) ≡ true)
-    → MaySee s m n head b t (word_behind (key b t d) k)
-sees s m n b t d f g head k lost h z l w seen first = record {
+pub sees : (s : Setting) (m : Configuration) (n b t d head word : ℕ) (g : Search) → IsSearching s m n b t d g → IsSeen m head b t
+    → may_see m.state.back.area m.now.span_history (m.now.disturbed n) (caller_view m n) (key b t d) head word ≡ true → MaySee s m n head b t word
+sees s m n b t d head word g h seen may = record {
   begun = h.begun;
   inside = h.inside;
   seeks = h.seeks;
   slot = h.slot;
-  sees = ap (λ (y : SearchKey). may_see m.state.back.area m.now.span_history (m.now.disturbed n) (caller_view m n) y head (word_behind (key b t d) k)) (keyed s m n b t d g h)
-      ∙ may_read m.state.back.area m.now.span_history (m.now.disturbed n) (caller_view m n) b t d f head k lost g z h.search l w first;
+  sees = ap (λ (y : SearchKey). may_see m.state.back.area m.now.span_history (m.now.disturbed n) (caller_view m n) y head word) (keyed s m n b t d g h) ∙ may;
   seen = seen;
   old = h.old;
 }

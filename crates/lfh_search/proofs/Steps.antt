@@ -127,7 +127,7 @@ module _ (s : Setting) (n : ℕ) (m k : Configuration) (r : AgreesFor n m k) whe
     owned = λ o. let h = r.owned o in record { back = h.back; vs = h.vs; lfh = h.lfh; large = h.large; words = h.words; span_history = h.span_history };
   }
 
-  act_same : (act : Act) → is_reading act ≡ true → AgreesFor n (after s m (entry n act)) (after s k (entry n act))
+  pub act_same : (act : Act) → is_reading act ≡ true → AgreesFor n (after s m (entry n act)) (after s k (entry n act))
   act_same (acts.Saw head word bits) i = call_alone _ _ _ _ (call_own s n m k r (acts.Saw head word bits))
   act_same (acts.Lost head index) i = call_alone _ _ _ _ (call_own s n m k r (acts.Lost head index))
   act_same (acts.NoHint bucket slot) i = call_alone _ _ _ _ (call_own s n m k r (acts.NoHint bucket slot))

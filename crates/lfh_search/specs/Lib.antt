@@ -4,3 +4,7 @@ pub mod Descriptors
 pub mod Courses
 pub mod Results
 pub mod Readings
+pub mod ClaimMoves
+pub mod ClaimSearch
+pub mod SpanHints
+pub mod SpanSubsegments

@@ -12,8 +12,8 @@ use Rattle.step_parts.specs.InHand.{HasBlock}
 use Rattle.step_parts.specs.Claims.{owed_by_place}
 use Rattle.heap_gate.specs.Token.{Token, now, Always, is_out}
 use Rattle.heap_gate.specs.Calls.{Runs, Stands, stance}
-use Rattle.lfh_claims.specs.Moves.{Moves, block_place}
-use Rattle.lfh_claims.specs.Search.{own_slot}
+use Rattle.lfh_search.specs.ClaimMoves.{Moves, block_place}
+use Rattle.lfh_search.specs.ClaimSearch.{own_slot}
 use Rattle.lfh_search.specs.Acts.{by, AreReadings, losses, IsDry, AreDry}
 use Rattle.lfh_search.specs.Standing.{key, IsSearching, IsBetween, reading, dried}
 

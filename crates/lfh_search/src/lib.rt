@@ -5,8 +5,9 @@
 //! back end's lock, in all subsegments of the bucket and of the caller's slot, and then makes a subsegment.
 #![tactic(auto)]
 
-mod course;
-mod hint;
-mod reading;
+pub mod course;
+pub mod hint;
+pub mod reading;
+pub mod stub;
 
 
