@@ -5,3 +5,4 @@ pub mod Words
 pub mod Seen
 pub mod Placing
 pub mod WordRead
+pub mod WordLoop

@@ -91,7 +91,7 @@ module _ (c : Token) (b d : ℕ) (f : Search) (head k lost : ℕ) (z : IsIn c b 
       pub picked_is : after_acts g z.search saw ≡ record (reading f head k lost) { picked = Some (64 * word + i) }
       picked_is = picks b (own_slot c) d f head k lost z.search z.between in_it bits i p
 
-      slot_same : own_slot e ≡ own_slot c
+      pub slot_same : own_slot e ≡ own_slot c
       slot_same = same_slot c e saw (refl, tt) h.runs b d z.search z.searching
 
       pub may_claim_it : Always e (λ s. MayClaim s (now s e) e.number head (sought e) (own_slot e) (64 * word + i))
@@ -159,6 +159,9 @@ module _ (c : Token) (b d : ℕ) (f : Search) (head k lost : ℕ) (z : IsIn c b 
 
         pub searching_lost : Searches a b d (reading f head k (lost + 1))
         searching_lost = subst (Searches a b d) (ap after_lost picked_is) (searches_on e a lose (refl, tt) h'.runs b d (after_acts g z.search saw) searching)
+
+        pub slot_lost : own_slot a ≡ own_slot c
+        slot_lost = same_slot e a lose (refl, tt) h'.runs b d (after_acts g z.search saw) searching ∙ slot_same
 
         pub hint_lost : HasHint c → HasHint a
         hint_lost q = hint_on e a lose (refl, tt) h'.runs b d (after_acts g z.search saw) searching h'.stands.owes h'.stands.out (hint_seen q)
