@@ -1,5 +1,5 @@
 -- Blocks in hand, and what size words, tags and active words tell.
-use Rattle.std.specs.Prelude.{◌≡◌, ◌/◌, ℕ, ◌<◌, ◌==◌, Bool, List, [], ◌∷◌, Option, Some, None, cond}
+use Rattle.std.specs.Prelude.{◌≡◌, ◌/◌, ℕ, ◌<◌, ◌==◌, false, List, [], ◌∷◌, Option, Some, None, cond}
 use Rattle.heap_model.specs.declared.Act.TheVariants as acts
 use Rattle.heap_model.specs.Buckets.{block_address}
 use Rattle.claim_rule.specs.Entries.{entry}

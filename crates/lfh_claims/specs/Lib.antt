@@ -1,3 +1,5 @@
 pub mod Moves
 pub mod Search
 pub mod Blocks
+pub mod Stays
+pub mod Laws

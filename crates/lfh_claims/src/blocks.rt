@@ -89,7 +89,10 @@ pub fn live_size<T: Stands>(heap: &Heap<T>, c: &mut Caller<T>, tag: Tag, addr: u
     );
     c.prepared.clear();
     c.pending = false;
-    word.checked_sub(1)
+    if word == 0 {
+        return None;
+    }
+    Some(word - 1)
 }
 
 /// Gives a block in hand back, by one fetch_and that clears its bit. The tag is that of its subsegment: the words of its pages
@@ -103,8 +106,10 @@ pub fn clear<T: Stands>(heap: &Heap<T>, c: &mut Caller<T>, tag: Tag, addr: u64)
     requires may { MayGiveUp c.old tag addr }
     ensures { HasCleared c.old c.new addr }
 {
-    let index = u32::from(index_of(tag.bucket, tag.head, addr).unwrap());
-    let at = bitmap_at(&heap.limits(), tag.head, index / WORD_BITS) as usize;
+    let limits = heap.limits();
+    let index = index_of(tag.bucket, tag.head, addr).unwrap();
+    let number = u32::from(index);
+    let at = bitmap_at(&limits, tag.head, number / WORD_BITS) as usize;
     let _bits = clear_by::<T, Brand, Brand>(
         &heap.table.shared,
         &mut c.place,
@@ -112,7 +117,7 @@ pub fn clear<T: Stands>(heap: &Heap<T>, c: &mut Caller<T>, tag: Tag, addr: u64)
         tag,
         index,
         at,
-        !(1u64 << (index % WORD_BITS)),
+        !(1u64 << (number % WORD_BITS)),
     );
     c.prepared.clear();
     c.pending = false;

@@ -6,6 +6,7 @@
 #![tactic(auto)]
 
 mod blocks;
+pub mod laws;
 mod looks;
 mod search;
 mod steps;

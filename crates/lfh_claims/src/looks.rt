@@ -92,7 +92,7 @@ pub fn owner_bits<T: Stands>(heap: &Heap<T>, c: &mut Caller<T>, head: u32, word:
     requires there { (head < 256 * c.old.opening.limits.segments) × (word < 4) }
     ensures runs { Runs c.old c.new [] }
     ensures stands { Standing c.new (stance c.old) }
-    ensures bits { Always c.old (λ s. IsBitsWord (now s c.old).state.lfh (now s c.old).state.back.area head word result) }
+    ensures bits { Always c.new (λ s. IsBitsWord (now s c.old).state.lfh (now s c.old).state.back.area head word result) }
 {
     let at = bitmap_at(&heap.limits(), head, word) as usize;
     let bits = bits_by::<T, Brand, Brand>(
@@ -117,7 +117,7 @@ pub fn owner_size<T: Stands>(heap: &Heap<T>, c: &mut Caller<T>, addr: u64) -> u6
     requires there { addr < 1048576 * c.old.opening.limits.segments }
     ensures runs { Runs c.old c.new [] }
     ensures stands { Standing c.new (stance c.old) }
-    ensures word { Always c.old (λ s. result ≡ size_word (now s c.old).state.lfh (addr / 16)) }
+    ensures word { Always c.new (λ s. result ≡ size_word (now s c.old).state.lfh (addr / 16)) }
 {
     let at = size_at(&heap.limits(), (addr / GRANULE_BYTES) as u32) as usize;
     let word =

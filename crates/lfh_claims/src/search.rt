@@ -49,9 +49,9 @@ pub fn claim<T: Stands>(heap: &Heap<T>, c: &mut Caller<T>, head: u32, index: u16
     ensures claimed { result ≡ true → HasClaimed c.old c.new head index }
     ensures lost { result ≡ false → HasLost c.old c.new head index }
 {
-    let index = u32::from(index);
-    let at = bitmap_at(&heap.limits(), head, index / WORD_BITS) as usize;
-    let bit = index % WORD_BITS;
+    let number = u32::from(index);
+    let at = bitmap_at(&heap.limits(), head, number / WORD_BITS) as usize;
+    let bit = number % WORD_BITS;
     let bits = claim_by::<T, Brand, Brand>(
         &heap.table.shared,
         &mut c.place,
@@ -64,7 +64,7 @@ pub fn claim<T: Stands>(heap: &Heap<T>, c: &mut Caller<T>, head: u32, index: u16
     );
     c.prepared.clear();
     c.pending = false;
-    let free = bits >> bit & 1 == 0;
+    let free = (bits >> bit) % 2 == 0;
     if free {
         c.free = false;
     }

@@ -52,7 +52,7 @@ pub(crate) fn claim_by<T: Stands, B: Target, E: Carried>(
     _prepared: &Prepared,
     _number: u32,
     _head: u32,
-    _index: u32,
+    _index: u16,
     at: usize,
     bit: u64,
 ) -> u64
@@ -129,7 +129,7 @@ pub(crate) fn clear_by<T: Stands, B: Target, E: Carried>(
     place: &mut Seating<T>,
     _prepared: &Prepared,
     _tag: Tag,
-    _index: u32,
+    _index: u16,
     at: usize,
     others: u64,
 ) -> u64

@@ -1,0 +1,62 @@
+use Rattle.std.proofs.Common.{◌≡◌, ◌-◌, ◌∙◌, ℕ, true, false, [], ◌∷◌, List, refl, sym, subst, ap}
+use Rattle.random_pick.specs.CallerDraws.{words_of}
+use Rattle.heap_model.specs.declared.Act.TheVariants as acts
+use Rattle.heap_model.specs.State.{Setting}
+use Rattle.claim_rule.specs.Entries.{IsSettingOf, entry}
+use Rattle.claim_rule.specs.Plays.{number_of}
+use Rattle.heap_gate.specs.Token.{Token, Always, now}
+use Rattle.heap_gate.specs.Seated.{Face, tok}
+use Rattle.heap_gate.proofs.Tokens.{goes_by, as_was, faced}
+use Rattle.block_steps.specs.Blocks.{MayAsk}
+use Rattle.lfh_claims.specs.Blocks.{HasTakenLive, HasFoundNone, HasSize}
+use Rattle.lfh_claims.proofs.Acting.{may_in}
+use Rattle.lfh_claims.proofs.Exchanges.{denying, has_found_none, sizing, has_size}
+use Rattle.lfh_claims.proofs.blocks.live_size.Goals as goal
+
+pub size_by-word-requires-clause-may : goal.size_by-word-requires-clause-may
+size_by-word-requires-clause-may g c =
+    let i = c.c.inside in let f : Face = record { number = i.number; prepared = i.prepared.items; pending = i.pending; call = i.call; fresh = i.fresh; locked = i.locked; inside = i.inside; depth = i.depth; whole = i.whole; free = i.free; drawn = i.drawn } in let h = c.c.invariant in let z = i.place.table_id in let me = i.place.me in let stream = words_of i.draws in let v = c.c.view_is in
+    let w = ap (λ (t : Token). t.whole) v ∙ c.requires.whole in
+    let tag = c.args.tag in let addr = c.args.addr in
+    let may = subst (λ (t : Token). Always t (λ s. MayAsk (now s t) t.number tag.head tag.bucket tag.slot addr)) (sym v) c.requires.may in
+    may_in z me f i.slot stream h w (λ s m n. MayAsk m n tag.head tag.bucket tag.slot addr) may
+
+pub invariant_of-c : goal.invariant_of-c
+invariant_of-c g c =
+    let i = c.c.inside in let f : Face = record { number = i.number; prepared = i.prepared.items; pending = i.pending; call = i.call; fresh = i.fresh; locked = i.locked; inside = i.inside; depth = i.depth; whole = i.whole; free = i.free; drawn = i.drawn } in let h = c.c.invariant in let z = i.place.table_id in let me = i.place.me in let stream = words_of i.draws in let v = c.c.view_is in
+    let w = ap (λ (t : Token). t.whole) v ∙ c.requires.whole in
+    let p = c.size_by-word.new.place in let told = c.size_by-word.ensures.told in
+    let tag = c.args.tag in let addr = c.args.addr in let word = c.size_by-word.result in
+    let none = told.none c.if-word-eq0.true in
+    let go = goes_by z me f i.slot stream h p.me.0 (λ n. entry n (acts.NotLive addr) ∷ []) none.adds in
+    (denying z me f i.slot stream h w p.me none.slot p.table_id c.size_by-word.ensures.table c.clear.new.self.items c.clear.ensures none.owes addr go).caller
+
+pub returns-then-word-eq0-clause-none : goal.returns-then-word-eq0-clause-none
+returns-then-word-eq0-clause-none g c =
+    let i = c.c.inside in let f : Face = record { number = i.number; prepared = i.prepared.items; pending = i.pending; call = i.call; fresh = i.fresh; locked = i.locked; inside = i.inside; depth = i.depth; whole = i.whole; free = i.free; drawn = i.drawn } in let h = c.c.invariant in let z = i.place.table_id in let me = i.place.me in let stream = words_of i.draws in let v = c.c.view_is in
+    let w = ap (λ (t : Token). t.whole) v ∙ c.requires.whole in
+    let p = c.size_by-word.new.place in let told = c.size_by-word.ensures.told in
+    let tag = c.args.tag in let addr = c.args.addr in let word = c.size_by-word.result in
+    let none = told.none c.if-word-eq0.true in
+    let go = goes_by z me f i.slot stream h p.me.0 (λ n. entry n (acts.NotLive addr) ∷ []) none.adds in
+    subst (λ (t : Token). HasFoundNone t (tok p.table_id p.me (faced z me f i.slot stream h (as_was z me f i.slot stream h) c.clear.new.self.items)) addr) v (has_found_none z me f i.slot stream h w p.me none.slot p.table_id c.size_by-word.ensures.table c.clear.new.self.items c.clear.ensures none.owes addr go)
+
+pub invariant_of-c-2 : goal.invariant_of-c-2
+invariant_of-c-2 g c =
+    let i = c.c.inside in let f : Face = record { number = i.number; prepared = i.prepared.items; pending = i.pending; call = i.call; fresh = i.fresh; locked = i.locked; inside = i.inside; depth = i.depth; whole = i.whole; free = i.free; drawn = i.drawn } in let h = c.c.invariant in let z = i.place.table_id in let me = i.place.me in let stream = words_of i.draws in let v = c.c.view_is in
+    let w = ap (λ (t : Token). t.whole) v ∙ c.requires.whole in
+    let p = c.size_by-word.new.place in let told = c.size_by-word.ensures.told in
+    let tag = c.args.tag in let addr = c.args.addr in let word = c.size_by-word.result in
+    let live = told.live c.if-word-eq0.false in
+    let go = goes_by z me f i.slot stream h p.me.0 (λ n. entry n (acts.Sized addr (word - 1)) ∷ []) live.adds in
+    (sizing z me f i.slot stream h w p.me live.slot p.table_id c.size_by-word.ensures.table c.clear.new.self.items c.clear.ensures live.owes addr (word - 1) go).caller
+
+pub returns-clause-size : goal.returns-clause-size
+returns-clause-size g c =
+    let i = c.c.inside in let f : Face = record { number = i.number; prepared = i.prepared.items; pending = i.pending; call = i.call; fresh = i.fresh; locked = i.locked; inside = i.inside; depth = i.depth; whole = i.whole; free = i.free; drawn = i.drawn } in let h = c.c.invariant in let z = i.place.table_id in let me = i.place.me in let stream = words_of i.draws in let v = c.c.view_is in
+    let w = ap (λ (t : Token). t.whole) v ∙ c.requires.whole in
+    let p = c.size_by-word.new.place in let told = c.size_by-word.ensures.told in
+    let tag = c.args.tag in let addr = c.args.addr in let word = c.size_by-word.result in
+    let live = told.live c.if-word-eq0.false in
+    let go = goes_by z me f i.slot stream h p.me.0 (λ n. entry n (acts.Sized addr (word - 1)) ∷ []) live.adds in
+    subst (λ (t : Token). HasSize t (tok p.table_id p.me (faced z me f i.slot stream h (as_was z me f i.slot stream h) c.clear.new.self.items)) addr (word - 1)) v (has_size z me f i.slot stream h w p.me live.slot p.table_id c.size_by-word.ensures.table c.clear.new.self.items c.clear.ensures live.owes addr (word - 1) go)

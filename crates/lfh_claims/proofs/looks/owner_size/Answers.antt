@@ -1,0 +1,49 @@
+use Rattle.std.proofs.Common.{◌≡◌, ◌∙◌, ℕ, true, false, [], ◌∷◌, List, refl, sym, subst, ap}
+use Rattle.random_pick.specs.CallerDraws.{words_of}
+use Rattle.heap_model.specs.declared.Act.TheVariants as acts
+use Rattle.heap_model.specs.State.{Setting}
+use Rattle.claim_rule.specs.Entries.{IsSettingOf, entry}
+use Rattle.claim_rule.specs.Plays.{number_of}
+use Rattle.heap_gate.specs.Token.{Token, Always, now}
+use Rattle.heap_gate.specs.Seated.{Face, tok}
+use Rattle.heap_gate.proofs.Tokens.{goes_by, as_was, faced, with_left}
+use Rattle.heap_gate.specs.Calls.{Runs, Stands, stance}
+use Rattle.heap_gate.proofs.Acting.{looking, looked_runs}
+use Rattle.std.proofs.Common.{◌/◌}
+use Rattle.claim_rule.specs.Shown.{size_word}
+use Rattle.lfh_claims.proofs.Looking.{owns_it}
+use Rattle.lfh_claims.proofs.looks.owner_size.Goals as goal
+
+pub invariant_of-c : goal.invariant_of-c
+invariant_of-c g c =
+    let i = c.c.inside in let f : Face = record { number = i.number; prepared = i.prepared.items; pending = i.pending; call = i.call; fresh = i.fresh; locked = i.locked; inside = i.inside; depth = i.depth; whole = i.whole; free = i.free; drawn = i.drawn } in let h = c.c.invariant in let z = i.place.table_id in let me = i.place.me in let stream = words_of i.draws in let v = c.c.view_is in
+    let w = ap (λ (t : Token). t.whole) v ∙ c.requires.whole in
+    let p = c.look_size_by-word.new.place in let told = c.look_size_by-word.ensures.told in
+    let go = goes_by z me f i.slot stream h p.me.0 (λ n. []) told.goes in
+    (looking z me f i.slot stream h w p.me told.slot told.owes p.table_id c.look_size_by-word.ensures.table c.clear.new.self.items c.clear.ensures go).caller
+
+pub returns-clause-runs : goal.returns-clause-runs
+returns-clause-runs g c =
+    let i = c.c.inside in let f : Face = record { number = i.number; prepared = i.prepared.items; pending = i.pending; call = i.call; fresh = i.fresh; locked = i.locked; inside = i.inside; depth = i.depth; whole = i.whole; free = i.free; drawn = i.drawn } in let h = c.c.invariant in let z = i.place.table_id in let me = i.place.me in let stream = words_of i.draws in let v = c.c.view_is in
+    let w = ap (λ (t : Token). t.whole) v ∙ c.requires.whole in
+    let p = c.look_size_by-word.new.place in let told = c.look_size_by-word.ensures.told in
+    let go = goes_by z me f i.slot stream h p.me.0 (λ n. []) told.goes in
+    subst (λ (t : Token). Runs t (tok p.table_id p.me (faced z me f i.slot stream h (as_was z me f i.slot stream h) c.clear.new.self.items)) []) v (looked_runs z me f i.slot stream h w p.me told.slot told.owes p.table_id c.look_size_by-word.ensures.table c.clear.new.self.items c.clear.ensures go)
+
+pub returns-clause-stands : goal.returns-clause-stands
+returns-clause-stands g c =
+    let i = c.c.inside in let f : Face = record { number = i.number; prepared = i.prepared.items; pending = i.pending; call = i.call; fresh = i.fresh; locked = i.locked; inside = i.inside; depth = i.depth; whole = i.whole; free = i.free; drawn = i.drawn } in let h = c.c.invariant in let z = i.place.table_id in let me = i.place.me in let stream = words_of i.draws in let v = c.c.view_is in
+    let w = ap (λ (t : Token). t.whole) v ∙ c.requires.whole in
+    let p = c.look_size_by-word.new.place in let told = c.look_size_by-word.ensures.told in
+    let go = goes_by z me f i.slot stream h p.me.0 (λ n. []) told.goes in
+    subst (λ (t : Token). Stands (tok p.table_id p.me (faced z me f i.slot stream h (as_was z me f i.slot stream h) c.clear.new.self.items)) (stance t)) v (looking z me f i.slot stream h w p.me told.slot told.owes p.table_id c.look_size_by-word.ensures.table c.clear.new.self.items c.clear.ensures go).stands
+
+pub returns-clause-word : goal.returns-clause-word
+returns-clause-word g c =
+    let i = c.c.inside in let f : Face = record { number = i.number; prepared = i.prepared.items; pending = i.pending; call = i.call; fresh = i.fresh; locked = i.locked; inside = i.inside; depth = i.depth; whole = i.whole; free = i.free; drawn = i.drawn } in let h = c.c.invariant in let z = i.place.table_id in let me = i.place.me in let stream = words_of i.draws in let v = c.c.view_is in
+    let w = ap (λ (t : Token). t.whole) v ∙ c.requires.whole in
+    let p = c.look_size_by-word.new.place in let told = c.look_size_by-word.ensures.told in
+    let go = goes_by z me f i.slot stream h p.me.0 (λ n. []) told.goes in
+    let nz : f.depth ≡ 0 → ⊥ = λ e. c.requires.owner (sym (ap (λ (t : Token). t.depth) v) ∙ e) in
+    let R : Token → Setting → Type 0 = λ t s. c.look_size_by-word.result ≡ size_word (now s t).state.lfh (c.args.addr / 16) in
+    subst (λ (t : Token). (s : Setting) → IsSettingOf p.me.0.opening p.me.0.roll s → R t s) v (λ s q. told.owner s q (owns_it z me f i.slot stream h p.me go nz s q))

@@ -1,0 +1,44 @@
+-- What a caller may do by what earlier calls told it, in words of the token.
+use Rattle.std.specs.Prelude.{◌≡◌, ℕ, ◌/◌, ◌%◌, ◌<◌, ◌≤◌, true, is_some, List, ◌++◌, Some}
+use Rattle.heap_model.specs.declared.Entry.{Entry}
+use Rattle.heap_model.specs.Buckets.{block_address, block_count, block_size}
+use Rattle.heap_model.specs.Search.{request_of}
+use Rattle.step_parts.specs.InHand.{HasBlock, IsBlockNumber}
+use Rattle.block_steps.specs.Blocks.{MayAsk, MayPublish}
+use Rattle.heap_gate.specs.Token.{Token, now, Always, IsStanding}
+use Rattle.heap_gate.specs.Calls.{Does}
+use Rattle.lfh_claims.specs.declared.tag.Tag.{Tag}
+use Rattle.lfh_claims.specs.Blocks.{HasTag, MayGiveUp}
+use Rattle.lfh_claims.specs.Search.{sought}
+use Rattle.lfh_claims.specs.Stays.{all_stay, all_leave_spans, IsInside, HasRead}
+
+-- What counts as read counts so behind each call of a caller that is inside and does not leave, whatever others do.
+abbrev pub ReadStays : Type 0
+ReadStays =
+    (old new : Token) (es : List Entry) (head b t : ℕ) → Does old new es → all_stay (old.prepared ++ es) ≡ true → all_leave_spans old.prepared ≡ true → IsInside old → HasRead old head b t → HasRead new head b t
+
+-- a subsegment counts as read behind the reading of a tag
+abbrev pub ReadByTag : Type 0
+ReadByTag = (old new : Token) (page : ℕ) (tag : Tag) → HasTag old new page (Some tag) → HasRead new tag.head tag.bucket tag.slot
+
+-- .. and a caller that is inside may ask for a block in the page
+abbrev pub AsksByTag : Type 0
+AsksByTag =
+    (old new : Token) (addr : ℕ) (tag : Tag) → HasTag old new (addr / 4096) (Some tag) → IsStanding new → new.inside ≡ true → addr % 16 ≡ 0
+    → Always new (λ s. MayAsk (now s new) new.number tag.head tag.bucket tag.slot addr)
+
+-- a block in hand may become live
+abbrev pub PublishesInHand : Type 0
+PublishesInHand =
+    (c : Token) (b addr size : ℕ) → IsInside c → Always c (λ s. HasBlock (now s c) c.number b addr) → size ≤ block_size b → size ≤ 16368
+    → Always c (λ s. MayPublish s (now s c) c.number addr size)
+
+-- .. or be given back, where its subsegment counts as read
+abbrev pub ClearsInHand : Type 0
+ClearsInHand =
+    (c : Token) (tag : Tag) (addr : ℕ) → IsInside c → HasRead c tag.head tag.bucket tag.slot → IsBlockNumber tag.head tag.bucket addr → Always c (λ s. HasBlock (now s c) c.number tag.bucket addr)
+    → MayGiveUp c tag addr
+
+-- the bucket that a call searches
+abbrev pub SoughtIs : Type 0
+SoughtIs = (c : Token) (b : ℕ) → Always c (λ s. (request_of s (now s c) c.number).search ≡ Some b) → sought c ≡ b
