@@ -21,8 +21,8 @@ use Rattle.step_parts.specs.Claims.{owed_by_place}
 use Rattle.heap_gate.specs.Token.{Token, now, Always, is_out}
 use Rattle.heap_gate.specs.Calls.{Does, Runs}
 use Rattle.data_words.proofs.Copying.{does_then}
-use Rattle.lfh_search.specs.ClaimMoves.{Moves, block_place}
-use Rattle.lfh_search.specs.ClaimSearch.{own_slot}
+use Rattle.lfh_claims.specs.Moves.{Moves, block_place}
+use Rattle.lfh_claims.specs.Search.{own_slot}
 use Rattle.lfh_search.specs.Acts.{by, AreReadings}
 use Rattle.lfh_search.specs.Results.{Went, HasPlaced, place}
 use Rattle.lfh_search.proofs.Steps.{earlier, act_same, by-append, readings-append}

@@ -15,7 +15,7 @@ use Rattle.block_steps.specs.Searches.{MaySee}
 use Rattle.step_parts.specs.Claims.{MayClaim}
 use Rattle.heap_gate.specs.Token.{Token, now, Always}
 use Rattle.lfh_search.specs.Courses.{IsCourse}
-use Rattle.lfh_search.specs.ClaimSearch.{own_slot, sought, HasSeen, HasClaimed, HasLost}
+use Rattle.lfh_claims.specs.Search.{own_slot, sought, HasSeen, HasClaimed, HasLost}
 use Rattle.lfh_search.specs.declared.course.Course.{Course}
 use Rattle.lfh_search.specs.Acts.{AreReadings, losses, IsDry}
 use Rattle.lfh_search.specs.Standing.{key, reading}

@@ -19,8 +19,9 @@ use Rattle.block_steps.specs.Searches.{MaySee}
 use Rattle.claim_rule.specs.Entries.{IsSettingOf, entry}
 use Rattle.heap_gate.specs.Token.{Token, now, Always, is_out}
 use Rattle.heap_gate.specs.Calls.{Runs, Stands, stance}
-use Rattle.lfh_search.specs.ClaimSearch.{sought, own_slot, own_hint, HasSeen, HasClaimed, HasLost}
-use Rattle.lfh_search.specs.ClaimMoves.{Moves, block_place}
+use Rattle.lfh_claims.specs.Search.{sought, own_slot, own_hint, HasSeen, HasClaimed, HasLost}
+use Rattle.lfh_claims.specs.Moves.{Moves, block_place}
+use Rattle.lfh_claims.specs.Stays.{HasRead}
 use Rattle.lfh_search.specs.Acts.{by, AreReadings, losses, after_acts}
 use Rattle.lfh_search.specs.Standing.{key, IsSearching, IsBetween, reading, dried}
 use Rattle.lfh_search.specs.Results.{Searches, Went, MayBegin, IsBefore, IsIn, IsPast, HasPlaced, IsBeaten}
@@ -28,7 +29,7 @@ use Rattle.lfh_search.specs.Readings.{HasHint}
 use Rattle.lfh_search.proofs.Steps.{by-append}
 use Rattle.lfh_search.proofs.Readings.{StandsIn, within, sees, claims, passes, ends, picks}
 use Rattle.lfh_search.proofs.Words.{sought_is, searches_on, same_slot, hint_on, went_then}
-use Rattle.lfh_search.proofs.Seen.{seen_on}
+use Rattle.lfh_search.proofs.Seen.{seen_on, waits_none}
 use Rattle.lfh_search.proofs.Placing.{placed_then}
 
 module _ (c : Token) (b d : ℕ) (f : Search) (head k lost : ℕ) (z : IsIn c b d f head k lost) (some : 0 < words_in_use b) where
@@ -66,8 +67,8 @@ module _ (c : Token) (b d : ℕ) (f : Search) (head k lost : ℕ) (z : IsIn c b 
     searching : Searches e b d (after_acts g z.search saw)
     searching = searches_on c e saw (refl, tt) h.runs b d z.search z.searching
 
-    seen : Always e (λ s. Rattle.step_parts.specs.Seen.IsSeen (now s e) head b (own_slot e))
-    seen = seen_on c e saw (refl, tt) h.runs b d z.search z.searching head z.seen
+    seen : HasRead e head b (own_slot e)
+    seen = seen_on c e saw (refl, tt) h.runs b d z.search z.searching z.waits head z.seen
 
     pub hint_seen : HasHint c → HasHint e
     hint_seen = hint_on c e saw (refl, tt) h.runs b d z.search z.searching h.stands.owes h.stands.out
@@ -82,6 +83,7 @@ module _ (c : Token) (b d : ℕ) (f : Search) (head k lost : ℕ) (z : IsIn c b 
         stands = inr (passes b (own_slot c) d f head k lost z.search z.between in_it bits p l);
         searching = searching;
         seen = seen;
+        waits = waits_none e h.stands.prepared;
       };
       all = λ l. subst (Searches e b d) (ends b (own_slot c) d f head k lost z.search z.between in_it bits p l) searching;
     }
@@ -173,5 +175,6 @@ module _ (c : Token) (b d : ℕ) (f : Search) (head k lost : ℕ) (z : IsIn c b 
           search = reading f head k (lost + 1);
           stands = inr refl;
           searching = searching_lost;
-          seen = seen_on e a lose (refl, tt) h'.runs b d (after_acts g z.search saw) searching head seen;
+          seen = seen_on e a lose (refl, tt) h'.runs b d (after_acts g z.search saw) searching (waits_none e h.stands.prepared) head seen;
+          waits = waits_none a h'.stands.prepared;
         }

@@ -18,7 +18,7 @@ use Rattle.claim_rule.specs.Shown.{hint_word, owed_or}
 use Rattle.claim_rule.proofs.Advance.{some_setting}
 use Rattle.heap_gate.specs.Token.{Token, now, Always, is_out}
 use Rattle.heap_gate.specs.Calls.{Does, Runs, Stands, stance}
-use Rattle.lfh_search.specs.ClaimSearch.{sought, own_slot, own_hint, IsHintKnown}
+use Rattle.lfh_claims.specs.Search.{sought, own_slot, own_hint, IsHintKnown}
 use Rattle.lfh_search.specs.Acts.{by, is_reading, AreReadings, after_acts}
 use Rattle.lfh_search.specs.Standing.{key, IsSearching}
 use Rattle.lfh_search.specs.Results.{Searches, Went}

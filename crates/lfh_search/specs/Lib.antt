@@ -4,7 +4,5 @@ pub mod Descriptors
 pub mod Courses
 pub mod Results
 pub mod Readings
-pub mod ClaimMoves
-pub mod ClaimSearch
 pub mod SpanHints
 pub mod SpanSubsegments

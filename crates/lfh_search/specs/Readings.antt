@@ -7,7 +7,7 @@ use Rattle.heap_model.specs.CallState.{Search}
 use Rattle.search_laws.specs.Reading.{word_behind}
 use Rattle.heap_model.specs.State.{holds}
 use Rattle.heap_gate.specs.Token.{Token, Always, now, is_out}
-use Rattle.lfh_search.specs.ClaimSearch.{own_slot, IsHintKnown}
+use Rattle.lfh_claims.specs.Search.{own_slot, IsHintKnown}
 use Rattle.lfh_search.specs.declared.course.Course.{Course}
 use Rattle.lfh_search.specs.declared.reading.Reading.{Reading}
 use Rattle.lfh_search.specs.declared.reading.Reading.TheVariants.{Claimed, Dry, Beaten}

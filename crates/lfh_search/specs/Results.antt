@@ -7,13 +7,13 @@ use Rattle.heap_model.specs.declared.What.TheVariants as whats
 use Rattle.heap_model.specs.Buckets.{words_in_use, block_count, block_size, block_address}
 use Rattle.heap_model.specs.CallState.{Search, Configuration, NotBegun, AtHint, caller_view}
 use Rattle.heap_model.specs.Search.{SearchKey, first_word, may_see}
-use Rattle.step_parts.specs.Seen.{IsSeen}
 use Rattle.step_parts.specs.InHand.{HasBlock}
 use Rattle.step_parts.specs.Claims.{owed_by_place}
 use Rattle.heap_gate.specs.Token.{Token, now, Always, is_out}
 use Rattle.heap_gate.specs.Calls.{Runs, Stands, stance}
-use Rattle.lfh_search.specs.ClaimMoves.{Moves, block_place}
-use Rattle.lfh_search.specs.ClaimSearch.{own_slot}
+use Rattle.lfh_claims.specs.Moves.{Moves, block_place}
+use Rattle.lfh_claims.specs.Search.{own_slot}
+use Rattle.lfh_claims.specs.Stays.{all_stay, all_leave_spans, HasRead}
 use Rattle.lfh_search.specs.Acts.{by, AreReadings, losses, IsDry, AreDry}
 use Rattle.lfh_search.specs.Standing.{key, IsSearching, IsBetween, reading, dried}
 
@@ -33,6 +33,11 @@ abbrev pub MayBegin : Token → ℕ → ℕ → ℕ → Type 0
 MayBegin c b d head = Always c (λ s.
     may_see (now s c).state.back.area (now s c).now.span_history ((now s c).now.disturbed c.number) (caller_view (now s c) c.number) (key b (own_slot c) d) head (first_word (key b (own_slot c) d)) ≡ true)
 
+-- what the caller has prepared leaves it inside, and the spans as they are
+pub record WaitsInside (c : Token) : Type 0 where
+  pub stays : all_stay c.prepared ≡ true
+  pub leaves : all_leave_spans c.prepared ≡ true
+
 -- no word was read yet
 pub record IsBefore (c : Token) (b d : ℕ) (f : Search) (head k lost : ℕ) (g : Search) : Type 0 where
   pub none : k ≡ 0
@@ -47,7 +52,8 @@ pub record IsIn (c : Token) (b d : ℕ) (f : Search) (head k lost : ℕ) : Type 
   pub search : Search
   pub stands : IsBefore c b d f head k lost search ⊎ (search ≡ reading f head k lost)
   pub searching : Searches c b d search
-  pub seen : Always c (λ s. IsSeen (now s c) head b (own_slot c))
+  pub seen : HasRead c head b (own_slot c)
+  pub waits : WaitsInside c
 
 -- k words are dry, which may be all
 pub record IsPast (c : Token) (b d : ℕ) (f : Search) (head k lost : ℕ) : Type 0 where

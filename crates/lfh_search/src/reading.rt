@@ -2,7 +2,7 @@
 ghost use Rattle.std.specs.Prelude.{◌≡◌, ◌+◌, ◌*◌, ◌<◌, ℕ, true, false};
 ghost use Rattle.heap_model.specs.CallState.{Search};
 ghost use Rattle.search_laws.specs.Reading.{word_behind};
-ghost use Rattle.lfh_search.specs.ClaimSearch.{own_slot};
+ghost use Rattle.lfh_claims.specs.Search.{own_slot};
 ghost use Rattle.lfh_search.specs.Standing.{key};
 ghost use Rattle.lfh_search.specs.Courses.{IsCourse};
 ghost use Rattle.lfh_search.specs.Results.{IsIn};
@@ -11,7 +11,7 @@ ghost use Rattle.lfh_search.specs.Readings.{AtWord, WordRead};
 use crate::course::Course;
 use heap_gate::{Caller, Heap};
 use heap_model::{Stands, WORD_BITS};
-use crate::stub::Lfh;
+use lfh_claims::{claim, see};
 use random_pick::pick;
 
 /// How many lost claims end the search of a call.
@@ -29,7 +29,7 @@ pub enum Reading {
 }
 
 /// Reads a word of a subsegment until it shows no free block, a block is claimed, or the eighth claim is lost.
-pub fn read_word<T: Stands, L: Lfh>(
+pub fn read_word<T: Stands>(
     heap: &Heap<T>,
     c: &mut Caller<T>,
     course: &Course,
@@ -48,12 +48,12 @@ pub fn read_word<T: Stands, L: Lfh>(
 {
     let mut so_far = lost;
     while so_far < LOSSES {
-        let bits = L::see(heap, c, head, word);
+        let bits = see(heap, c, head, word);
         let Some(bit) = pick(bits, course.valid[word as usize], course.bit) else {
             return Reading::Dry { lost: so_far };
         };
         let index = (WORD_BITS * word + u32::from(bit)) as u16;
-        if L::claim(heap, c, head, index) {
+        if claim(heap, c, head, index) {
             return Reading::Claimed { index };
         }
         so_far += 1;
