@@ -17,6 +17,7 @@ use Rattle.page_ranges.specs.Words.{first_word, later_word, word_in, header_run}
 use Rattle.page_ranges.specs.Ranges.{IsRun, IsMarkedRun, AreRuns}
 use Rattle.page_ranges.specs.Spans.{is_of_span, span_of, spans_in}
 use Rattle.page_ranges.proofs.Decode.{kind_small}
+use Rattle.page_ranges.proofs.Runs.{runs_le}
 use Rattle.lfh_search.specs.Descriptors.{head_mask, head_mark}
 
 ---- What the mask leaves
@@ -60,3 +61,115 @@ later_none k m b t e =
 
 zero_none : (b t : ℕ) → bit_and 0 head_mask ≡ head_mark b t → ⊥
 zero_none b t e = let z : 0 ≡ head_mark b t = sym (masked 0) ∙ e in omega arith
+
+---- The runs of the words
+
+is_mine : (b t : ℕ) (r : Run) → r.mark.kind ≡ kinds.Lfh → r.mark.bucket ≡ b → r.mark.slot ≡ t → is_span_of b t (span_of r) ≡ true
+is_mine b t r k e f = and_from (is_kind r.mark.kind kinds.Lfh && eqb r.mark.bucket b) (eqb r.mark.slot t)
+    (and_from (is_kind r.mark.kind kinds.Lfh) (eqb r.mark.bucket b) (ap (λ (x : Kind). is_kind x kinds.Lfh) k) (eq-eqb r.mark.bucket b e)) (eq-eqb r.mark.slot t f)
+
+mine_parts : (b t : ℕ) (x : Span) → is_span_of b t x ≡ true → (x.kind ≡ kinds.Lfh) × (x.bucket ≡ b) × (x.slot ≡ t)
+mine_parts b t x h =
+    let p = and_parts (is_kind x.kind kinds.Lfh && eqb x.bucket b) (eqb x.slot t) h in
+    let q = and_parts (is_kind x.kind kinds.Lfh) (eqb x.bucket b) p.0 in
+    (kind_is x.kind kinds.Lfh q.0, eqb-true x.bucket b q.1, eqb-true x.slot t p.1)
+
+module _ (words : List ℕ) (b t : ℕ) (small : b < 256) where
+  -- a run that is one of these subsegments shows so on its first page
+  shows : (r : Run) → IsRun words r → is_span_of b t (span_of r) ≡ true → bit_and (slice_index words r.first) head_mask ≡ head_mark b t
+  shows r i m = elim i.kept [
+    | inl e ↦ absurd (header e.0)
+    | inr k ↦ marked k
+  ]
+    where
+      header : r ≡ header_run r.first → ⊥
+      header e = let z : header_run r.first ≡ header_run r.first = refl in let k : r.mark.kind ≡ kinds.Header = ap (λ (q : Run). q.mark.kind) e in let n : kind_number kinds.Header ≡ kind_number kinds.Lfh = ap kind_number (sym k ∙ (mine_parts b t (span_of r) m).0) in omega (arith, n)
+
+      marked : IsMarkedRun words r → bit_and (slice_index words r.first) head_mask ≡ head_mark b t
+      marked k =
+          let p = mine_parts b t (span_of r) m in
+          let at : slice_index words r.first ≡ word_in r 0 = ap (slice_index words) (sym (add-zero r.first)) ∙ k.marked 0 i.some in
+          ap (λ (n : ℕ). bit_and n head_mask) at
+          ∙ is_mark (kind_number r.mark.kind) r.pages r.mark.bucket r.mark.slot r.mark.unused (kind_small r.mark.kind) k.pages k.fields.bucket k.fields.slot k.fields.unused b t (ap kind_number p.0) p.1 p.2
+
+  -- a page of a run that shows one is its first, and the run is that subsegment
+  shown_by : (r : Run) (k : ℕ) → IsRun words r → k < r.pages → bit_and (slice_index words (r.first + k)) head_mask ≡ head_mark b t → (k ≡ 0) × (is_span_of b t (span_of r) ≡ true) × (is_of_span r.mark.kind ≡ true)
+  shown_by r k i l e = elim i.kept [
+    | inl h ↦ absurd (header h.0 h.1)
+    | inr m ↦ marked k m l e
+  ]
+    where
+      header : r ≡ header_run r.first → slice_index words r.first ≡ 0 → ⊥
+      header h z =
+          let one : r.pages ≡ 1 = ap (λ (q : Run). q.pages) h in
+          let k0 : k ≡ 0 = omega (arith, one, l) in
+          zero_none b t (ap (λ (n : ℕ). bit_and n head_mask) (sym (ap (slice_index words) (ap (λ (n : ℕ). r.first + n) k0 ∙ add-zero r.first) ∙ z)) ∙ e)
+
+      by_kind : (x : Kind) → kind_number x ≡ 3 → x ≡ kinds.Lfh
+      by_kind kinds.Lfh n = refl
+      by_kind kinds.Header n = absurd (omega (arith, n))
+      by_kind kinds.Free n = absurd (omega (arith, n))
+      by_kind kinds.Vs n = absurd (omega (arith, n))
+      by_kind kinds.Back n = absurd (omega (arith, n))
+
+      marked : (k : ℕ) → IsMarkedRun words r → k < r.pages → bit_and (slice_index words (r.first + k)) head_mask ≡ head_mark b t → (k ≡ 0) × (is_span_of b t (span_of r) ≡ true) × (is_of_span r.mark.kind ≡ true)
+      marked zero m l e =
+          let at : slice_index words (r.first + 0) ≡ word_in r 0 = m.marked 0 l in
+          let p = by_mark (kind_number r.mark.kind) r.pages r.mark.bucket r.mark.slot r.mark.unused (kind_small r.mark.kind) m.pages m.fields.bucket m.fields.slot m.fields.unused b t small (ap (λ (n : ℕ). bit_and n head_mask) (sym at) ∙ e) in
+          let k = by_kind r.mark.kind p.0 in
+          (refl, is_mine b t r k p.1 p.2, ap is_of_span k)
+      marked (suc j) m l e =
+          let at : slice_index words (r.first + suc j) ≡ word_in r (suc j) = m.marked (suc j) l in
+          absurd (later_none (suc j) r.mark b t (ap (λ (n : ℕ). bit_and n head_mask) (sym at) ∙ e))
+
+  abbrev pub mine : List Run → List Span
+  mine rs = filter (is_span_of b t) (spans_in rs)
+
+  abbrev pub IsHead : ℕ → Type 0
+  IsHead page = bit_and (slice_index words page) head_mask ≡ head_mark b t
+
+  -- the subsegments of the runs are shown on their first pages, which rise
+  pub heads_shown : (from to : ℕ) (rs : List Run) → AreRuns words from to rs → (x : Span) → IsOneOf x (mine rs) → IsHead x.first × (from ≤ x.first) × (x.first < to)
+  heads_shown from to [] a x i = absurd i
+  heads_shown from to (r ∷ rs) a x i = elim (cases_Bool (is_of_span r.mark.kind)) [
+    | inr n ↦ rest (rw n at i)
+    | inl y ↦ elim (cases_Bool (is_span_of b t (span_of r))) [
+      | inr n ↦ rest (rw (y, n) at i)
+      | inl m ↦ first m (rw (y, m) at i)
+    ]
+  ]
+    where
+      rest : IsOneOf x (mine rs) → IsHead x.first × (from ≤ x.first) × (x.first < to)
+      rest j = let h = heads_shown (from + r.pages) to rs a.2 x j in let l = h.1 in (h.0, omega (arith, l), h.2)
+
+      first : is_span_of b t (span_of r) ≡ true → IsOneOf x (span_of r ∷ mine rs) → IsHead x.first × (from ≤ x.first) × (x.first < to)
+      first m (inr j) = rest j
+      first m (inl e) =
+          let le = runs_le words (from + r.pages) to rs a.2 in
+          let some = a.1.some in
+          let at = a.0 in
+          subst (λ (y : Span). IsHead y.first × (from ≤ y.first) × (y.first < to)) e (shows r a.1 m, omega (arith, at), omega (arith, at, le, some))
+
+  -- .. and a page that shows one is the first of one
+  pub head_is : (from to : ℕ) (rs : List Run) (page : ℕ) → AreRuns words from to rs → from ≤ page → page < to → IsHead page → (x : Span) × IsOneOf x (mine rs) × (x.first ≡ page)
+  head_is from to [] page a l m h = absurd (omega (arith, a, l, m))
+  head_is from to (r ∷ rs) page a l m h = elim (cases_lt page (from + r.pages)) [
+    | inl n ↦ here n
+    | inr n ↦ let f = head_is (from + r.pages) to rs page a.2 n m h in (f.0, behind f.0 f.1, f.2)
+  ]
+    where
+      behind : (x : Span) → IsOneOf x (mine rs) → IsOneOf x (mine (r ∷ rs))
+      behind x j = elim (cases_Bool (is_of_span r.mark.kind)) [
+        | inr n ↦ rw n j
+        | inl y ↦ elim (cases_Bool (is_span_of b t (span_of r))) [ inr n ↦ rw (y, n) j | inl k ↦ rw (y, k) (inr j) ]
+      ]
+
+      here : page < from + r.pages → (x : Span) × IsOneOf x (mine (r ∷ rs)) × (x.first ≡ page)
+      here n =
+          let at = a.0 in
+          let e : page ≡ r.first + (page - r.first) = omega (arith, at, l) in
+          let p = shown_by r (page - r.first) a.1 (omega (arith, at, l, n)) (subst IsHead e h) in
+          let p0 = p.0 in
+          let y = p.2 in
+          let k = p.1 in
+          (span_of r, rw (y, k) (inl refl), omega (arith, at, l, p0))

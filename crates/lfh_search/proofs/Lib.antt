@@ -6,3 +6,5 @@ pub mod Seen
 pub mod Placing
 pub mod WordRead
 pub mod WordLoop
+pub mod Subsegment
+pub mod HintSearch

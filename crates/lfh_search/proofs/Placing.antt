@@ -19,7 +19,7 @@ use Rattle.heap_model.specs.Buckets.{block_address, block_size}
 use Rattle.step_parts.specs.InHand.{HasBlock}
 use Rattle.step_parts.specs.Claims.{owed_by_place}
 use Rattle.heap_gate.specs.Token.{Token, now, Always, is_out}
-use Rattle.heap_gate.specs.Calls.{Does, Runs}
+use Rattle.heap_gate.specs.Calls.{Does, Runs, Stands, stance}
 use Rattle.data_words.proofs.Copying.{does_then}
 use Rattle.lfh_claims.specs.Moves.{Moves, block_place}
 use Rattle.lfh_claims.specs.Search.{own_slot}
@@ -97,34 +97,37 @@ moves_then a c e xs its start granules HandsAre are x y0 = record {
     y = subst (λ (n : ℕ). Moves c e (by n (its ++ acts.Place start granules layers.Lfh ∷ [])) HandsAre) x.does.number y0
 
 -- what a call came to behind readings, from before them
-pub placed_then : (a c e : Token) (b head i : ℕ) (xs : List Act) → AreReadings xs → Went a c xs → own_slot c ≡ own_slot a → HasPlaced c e b head i → HasPlaced a e b head i
-placed_then a c e b head i [] are w t h = subst (λ (z : Token). HasPlaced z e b head i) w h
-placed_then a c e b head i (x ∷ xs) are w t h = record {
-  its = (x ∷ xs) ++ h.its;
-  are = readings-append (x ∷ xs) h.its are h.are;
+pub placed_behind : (a c e : Token) (b head i : ℕ) (xs : List Act) (u : Bool) → AreReadings xs → Runs a c (by a.number xs) → Stands c (record (stance a) { searched = u }) → own_slot c ≡ own_slot a → HasPlaced c e b head i → HasPlaced a e b head i
+placed_behind a c e b head i xs u are r w t h = record {
+  its = xs ++ h.its;
+  are = readings-append xs h.its are h.are;
   below = h.below;
-  moves = subst (λ (es : List Entry). Moves a e es (λ before behind. behind ≡ block_place b head i a.number ∷ before)) (sym (lists (x ∷ xs) h.its))
-      (moves_then a c e (by a.number (x ∷ xs)) h.its (block_address b head i) (block_size b / 16) (λ before behind. behind ≡ block_place b head i a.number ∷ before) h.are w.0
-      (subst (λ (n : ℕ). Moves c e (by c.number (h.its ++ place b head i ∷ [])) (λ before behind. behind ≡ block_place b head i n ∷ before)) w.0.does.number h.moves));
+  moves = subst (λ (es : List Entry). Moves a e es (λ before behind. behind ≡ block_place b head i a.number ∷ before)) (sym lists)
+      (moves_then a c e (by a.number xs) h.its (block_address b head i) (block_size b / 16) (λ before behind. behind ≡ block_place b head i a.number ∷ before) h.are r
+      (subst (λ (n : ℕ). Moves c e (by c.number (h.its ++ place b head i ∷ [])) (λ before behind. behind ≡ block_place b head i n ∷ before)) r.does.number h.moves));
   hint = h.hint;
   stands = record {
-    call = h.stands.call ∙ w.1.call;
-    fresh = h.stands.fresh ∙ w.1.fresh;
-    locked = h.stands.locked ∙ w.1.locked;
-    inside = h.stands.inside ∙ w.1.inside;
-    depth = h.stands.depth ∙ w.1.depth;
-    out = h.stands.out ∙ w.1.out;
-    owes = h.stands.owes ∙ (λ j. owed_by_place (is_out whats.Back (w.1.out j)) b (t j) h.hint (w.1.owes j));
+    call = h.stands.call ∙ w.call;
+    fresh = h.stands.fresh ∙ w.fresh;
+    locked = h.stands.locked ∙ w.locked;
+    inside = h.stands.inside ∙ w.inside;
+    depth = h.stands.depth ∙ w.depth;
+    out = h.stands.out ∙ w.out;
+    owes = h.stands.owes ∙ (λ j. owed_by_place (is_out whats.Back (w.out j)) b (t j) h.hint (w.owes j));
     free = h.stands.free;
-    searches = h.stands.searches ∙ w.1.searches;
+    searches = h.stands.searches ∙ w.searches;
     searched = h.stands.searched;
-    drawn = h.stands.drawn ∙ w.1.drawn;
+    drawn = h.stands.drawn ∙ w.drawn;
     whole = h.stands.whole;
     pending = h.stands.pending;
     prepared = h.stands.prepared;
   };
-  block = subst (λ (n : ℕ). Always e (λ s. HasBlock (now s e) n b (block_address b head i))) w.0.does.number h.block;
+  block = subst (λ (n : ℕ). Always e (λ s. HasBlock (now s e) n b (block_address b head i))) r.does.number h.block;
 }
   where
-    lists : (xs ys : List Act) → by a.number ((xs ++ ys) ++ place b head i ∷ []) ≡ by a.number xs ++ by a.number (ys ++ place b head i ∷ [])
-    lists xs ys = ap (by a.number) (append_assoc xs ys (place b head i ∷ [])) ∙ by-append a.number xs (ys ++ place b head i ∷ [])
+    lists : by a.number ((xs ++ h.its) ++ place b head i ∷ []) ≡ by a.number xs ++ by a.number (h.its ++ place b head i ∷ [])
+    lists = ap (by a.number) (append_assoc xs h.its (place b head i ∷ [])) ∙ by-append a.number xs (h.its ++ place b head i ∷ [])
+
+pub placed_then : (a c e : Token) (b head i : ℕ) (xs : List Act) → AreReadings xs → Went a c xs → own_slot c ≡ own_slot a → HasPlaced c e b head i → HasPlaced a e b head i
+placed_then a c e b head i [] are w t h = subst (λ (z : Token). HasPlaced z e b head i) w h
+placed_then a c e b head i (x ∷ xs) are w t h = placed_behind a c e b head i (x ∷ xs) true are w.0 w.1 t h

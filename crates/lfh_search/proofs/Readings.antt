@@ -75,7 +75,7 @@ module _ (b t d : ℕ) (f : Search) (head k lost : ℕ) (g : Search) (h : IsBetw
 ---- What may come next
 
 -- what a caller is shown to have read, with its search as it is
-seen_by : (v : CallerView) (f : Search) → v.call.search ≡ f → v ≡ record v { call = record v.call { search = f } }
+pub seen_by : (v : CallerView) (f : Search) → v.call.search ≡ f → v ≡ record v { call = record v.call { search = f } }
 seen_by v f e = λ j. record v { call = record v.call { search = e j } }
 
 head_read : (x : Stage) (head : ℕ) (read : List ℕ) → is_some_of (head_of (read_onto x head read)) head ≡ true

@@ -4,5 +4,6 @@ pub mod Descriptors
 pub mod Courses
 pub mod Results
 pub mod Readings
+pub mod Hints
 pub mod SpanHints
 pub mod SpanSubsegments

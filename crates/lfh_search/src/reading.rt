@@ -6,9 +6,9 @@ ghost use Rattle.lfh_claims.specs.Search.{own_slot};
 ghost use Rattle.lfh_search.specs.Standing.{key};
 ghost use Rattle.lfh_search.specs.Courses.{IsCourse};
 ghost use Rattle.lfh_search.specs.Results.{IsIn};
-ghost use Rattle.lfh_search.specs.Readings.{AtWord, WordRead};
+ghost use Rattle.lfh_search.specs.Readings.{AtWord, WordRead, CanRead, SubsegmentRead};
 
-use crate::course::Course;
+use crate::course::{Course, behind};
 use heap_gate::{Caller, Heap};
 use heap_model::{Stands, WORD_BITS};
 use lfh_claims::{claim, see};
@@ -59,4 +59,34 @@ pub fn read_word<T: Stands>(
         so_far += 1;
     }
     Reading::Beaten
+}
+
+/// Reads the words of a subsegment that are in use, from the course's first word on, until a block is claimed or the eighth claim is
+/// lost. So many claims of the call were lost before.
+pub fn read_subsegment<T: Stands>(
+    heap: &Heap<T>,
+    c: &mut Caller<T>,
+    course: &Course,
+    head: u32,
+    lost: u32,
+) -> Reading
+    requires table { (c.old.table ≡ heap.now.table) × (c.old.opening ≡ heap.now.opening) }
+    requires whole { c.old.whole ≡ true }
+    requires inside { c.old.inside ≡ true }
+    requires there { head < 256 * c.old.opening.limits.segments }
+    requires slot { own_slot c.old < 16 }
+    requires course { IsCourse course.now }
+    requires can { (f : Search) × CanRead c.old course.now f head lost }
+    ensures { (f : Search) → CanRead c.old course.now f head lost → SubsegmentRead c.old c.new course.now f head lost result }
+{
+    let mut so_far = lost;
+    let mut word = course.first;
+    for dry in 0..course.words {
+        match read_word(heap, c, course, head, word, so_far) {
+            Reading::Dry { lost: more } => so_far = more,
+            found => return found,
+        }
+        word = behind(word, course.words);
+    }
+    Reading::Dry { lost: so_far }
 }
