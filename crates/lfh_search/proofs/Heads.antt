@@ -131,24 +131,27 @@ module _ (words : List ℕ) (b t : ℕ) (small : b < 256) where
   -- the subsegments of the runs are shown on their first pages, which rise
   pub heads_shown : (from to : ℕ) (rs : List Run) → AreRuns words from to rs → (x : Span) → IsOneOf x (mine rs) → IsHead x.first × (from ≤ x.first) × (x.first < to)
   heads_shown from to [] a x i = absurd i
-  heads_shown from to (r ∷ rs) a x i = elim (cases_Bool (is_of_span r.mark.kind)) [
-    | inr n ↦ rest (rw n at i)
-    | inl y ↦ elim (cases_Bool (is_span_of b t (span_of r))) [
-      | inr n ↦ rest (rw (y, n) at i)
-      | inl m ↦ first m (rw (y, m) at i)
-    ]
-  ]
+  heads_shown from to (r ∷ rs) a x i = by (heads_shown (from + r.pages) to rs a.2 x)
     where
-      rest : IsOneOf x (mine rs) → IsHead x.first × (from ≤ x.first) × (x.first < to)
-      rest j = let h = heads_shown (from + r.pages) to rs a.2 x j in let l = h.1 in (h.0, omega (arith, l), h.2)
+      by : (IsOneOf x (mine rs) → IsHead x.first × (from + r.pages ≤ x.first) × (x.first < to)) → IsHead x.first × (from ≤ x.first) × (x.first < to)
+      by more = elim (cases_Bool (is_of_span r.mark.kind)) [
+        | inr n ↦ rest (rw n at i)
+        | inl y ↦ elim (cases_Bool (is_span_of b t (span_of r))) [
+          | inr n ↦ rest (rw (y, n) at i)
+          | inl m ↦ first m (rw (y, m) at i)
+        ]
+      ]
+        where
+          rest : IsOneOf x (mine rs) → IsHead x.first × (from ≤ x.first) × (x.first < to)
+          rest j = let h = more j in let l = h.1 in (h.0, omega (arith, l), h.2)
 
-      first : is_span_of b t (span_of r) ≡ true → IsOneOf x (span_of r ∷ mine rs) → IsHead x.first × (from ≤ x.first) × (x.first < to)
-      first m (inr j) = rest j
-      first m (inl e) =
-          let le = runs_le words (from + r.pages) to rs a.2 in
-          let some = a.1.some in
-          let at = a.0 in
-          subst (λ (y : Span). IsHead y.first × (from ≤ y.first) × (y.first < to)) e (shows r a.1 m, omega (arith, at), omega (arith, at, le, some))
+          first : is_span_of b t (span_of r) ≡ true → IsOneOf x (span_of r ∷ mine rs) → IsHead x.first × (from ≤ x.first) × (x.first < to)
+          first m (inr j) = rest j
+          first m (inl e) =
+              let le = runs_le words (from + r.pages) to rs a.2 in
+              let some = a.1.some in
+              let at = a.0 in
+              subst (λ (y : Span). IsHead y.first × (from ≤ y.first) × (y.first < to)) e (shows r a.1 m, omega (arith, at), omega (arith, at, le, some))
 
   -- .. and a page that shows one is the first of one
   pub head_is : (from to : ℕ) (rs : List Run) (page : ℕ) → AreRuns words from to rs → from ≤ page → page < to → IsHead page → (x : Span) × IsOneOf x (mine rs) × (x.first ≡ page)
@@ -173,3 +176,51 @@ module _ (words : List ℕ) (b t : ℕ) (small : b < 256) where
           let y = p.2 in
           let k = p.1 in
           (span_of r, rw (y, k) (inl refl), omega (arith, at, l, p0))
+
+  -- the subsegments rise
+  pub mine_rise : (from to : ℕ) (rs : List Run) → AreRuns words from to rs → AreInOrder from (mine rs)
+  mine_rise from to [] a = tt
+  mine_rise from to (r ∷ rs) a = by (mine_rise (from + r.pages) to rs a.2)
+    where
+      lower : (low high : ℕ) (xs : List Span) → low ≤ high → AreInOrder high xs → AreInOrder low xs
+      lower low high [] l h = tt
+      lower low high (x ∷ xs) l h = let h0 = h.0 in (omega (arith, l, h0), h.1, h.2)
+
+      by : AreInOrder (from + r.pages) (mine rs) → AreInOrder from (mine (r ∷ rs))
+      by more = elim (cases_Bool (is_of_span r.mark.kind)) [
+        | inr n ↦ rw n (lower from (from + r.pages) (mine rs) (omega arith) more)
+        | inl y ↦ elim (cases_Bool (is_span_of b t (span_of r))) [
+          | inr n ↦ rw (y, n) (lower from (from + r.pages) (mine rs) (omega arith) more)
+          | inl m ↦ rw (y, m) (let at = a.0 in (omega (arith, at), a.1.some, subst (λ (n : ℕ). AreInOrder (n + r.pages) (mine rs)) (sym at) more))
+        ]
+      ]
+
+---- The first that was not read
+
+-- Where a test passes exactly those from a page on, and the next of them begins at another, that is the first to pass.
+pub first_from : (low from page : ℕ) (xs : List Span) (test : Span → Bool) → AreInOrder low xs → ((x : Span) → IsOneOf x xs → test x ≡ not (nat_lt x.first from)) → from ≤ page
+    → ((x : Span) → IsOneOf x xs → from ≤ x.first → page ≤ x.first) → (y : Span) → IsOneOf y xs → y.first ≡ page → first_of (filter test xs) ≡ Some page
+first_from low from page [] test a h l next y i e = absurd i
+first_from low from page (x ∷ xs) test a h l next y i e = by i (first_from (x.first + x.pages) from page xs test a.2 (λ z j. h z (inr j)) l (λ z j. next z (inr j)) y)
+  where
+    by : IsOneOf y (x ∷ xs) → (IsOneOf y xs → y.first ≡ page → first_of (filter test xs) ≡ Some page) → first_of (filter test (x ∷ xs)) ≡ Some page
+    by i more = elim (cases_lt x.first from) [
+      | inl b ↦ let t : test x ≡ false = h x (inl refl) ∙ ap not (lt-ltb x.first from b) in rw t (later b i)
+      | inr n ↦ let t : test x ≡ true = h x (inl refl) ∙ ap not (le-ltb x.first from n) in rw t (ap Some (here n i))
+    ]
+      where
+        later : x.first < from → IsOneOf y (x ∷ xs) → first_of (filter test xs) ≡ Some page
+        later b (inl q) = let f : x.first ≡ page = ap (λ (z : Span). z.first) q ∙ e in absurd (omega (arith, b, f, l))
+        later b (inr j) = more j e
+
+        here : from ≤ x.first → IsOneOf y (x ∷ xs) → x.first ≡ page
+        here n (inl q) = ap (λ (z : Span). z.first) q ∙ e
+        here n (inr j) =
+            let u = (above (x.first + x.pages) xs y a.2 j).0 in
+            let g = next x (inl refl) n in
+            omega (arith, u, g, e)
+
+-- none passes where all begin before
+pub none_from : (from : ℕ) (xs : List Span) (test : Span → Bool) → ((x : Span) → IsOneOf x xs → test x ≡ not (nat_lt x.first from)) → ((x : Span) → IsOneOf x xs → x.first < from) → first_of (filter test xs) ≡ None
+none_from from [] test h l = refl
+none_from from (x ∷ xs) test h l = let t : test x ≡ false = h x (inl refl) ∙ ap not (lt-ltb x.first from (l x (inl refl))) in rw t (none_from from xs test (λ z j. h z (inr j)) (λ z j. l z (inr j)))
