@@ -8,3 +8,4 @@ pub mod WordRead
 pub mod WordLoop
 pub mod Subsegment
 pub mod HintSearch
+pub mod Passing

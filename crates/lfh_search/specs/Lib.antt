@@ -5,5 +5,6 @@ pub mod Courses
 pub mod Results
 pub mod Readings
 pub mod Hints
+pub mod Passes
 pub mod SpanHints
 pub mod SpanSubsegments

@@ -7,6 +7,7 @@
 
 pub mod course;
 pub mod hint;
+pub mod pass;
 pub mod reading;
 pub mod stub;
 
