@@ -1,0 +1,11 @@
+pub mod Quiet
+pub mod Making
+pub mod Heads
+pub mod Joined
+pub mod Likeness
+pub mod Installing
+pub mod Tagged
+pub mod Drawn
+pub mod Installed
+pub mod Refusing
+pub mod Missing

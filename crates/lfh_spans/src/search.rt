@@ -1,13 +1,10 @@
-//! The block that a draw picks in a new subsegment, and the lowest subsegment of a bucket and a slot.
-ghost use Rattle.std.specs.Prelude.{◌≡◌, ◌<◌, unwrap_or};
+//! The block that a draw picks in a new subsegment.
+ghost use Rattle.std.specs.Prelude.{◌≡◌, ◌<◌};
 ghost use Rattle.heap_model.specs.Buckets.{block_count};
-ghost use Rattle.heap_model.specs.Search.{first_of, spans_of};
-ghost use Rattle.backend_fit.specs.Kept.{area_of};
 ghost use Rattle.lfh_buckets.specs.Blocks.{IsBucket};
 ghost use Rattle.lfh_spans.specs.Subsegments.{drawn_block};
 
-use backend_fit::Back;
-use heap_model::{Kind, WORD_BITS};
+use heap_model::WORD_BITS;
 use lfh_buckets::{count, valid_bits};
 use random_pick::{Draw, pick};
 
@@ -20,19 +17,4 @@ pub fn own_block(bucket: u8, draw: Draw) -> u16
     let word = draw.value / WORD_BITS % count(bucket).div_ceil(WORD_BITS);
     let bit = pick(0, valid_bits(bucket, word), draw.value % WORD_BITS).unwrap_or(0);
     (WORD_BITS * word + u32::from(bit)) as u16
-}
-
-/// The first page of the lowest subsegment of a bucket and a slot, or 0.
-pub fn lowest(back: &Back, bucket: u8, slot: u32) -> u32
-    ensures { result ≡ unwrap_or (first_of (spans_of (area_of back.now) bucket slot)) 0 }
-{
-    let descs = back.descs();
-    let mut page = 0;
-    while let Some(run) = descs.next_run(page) {
-        if run.mark.kind == Kind::Lfh && run.mark.bucket == bucket && u32::from(run.mark.slot) == slot {
-            return run.first;
-        }
-        page = run.first + run.pages;
-    }
-    0
 }
