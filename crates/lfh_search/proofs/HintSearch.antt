@@ -19,7 +19,7 @@ use Rattle.block_steps.proofs.Searches.{among_seen}
 use Rattle.heap_gate.specs.Token.{Token, now, Always, is_out, IsStanding}
 use Rattle.heap_gate.specs.Calls.{Runs, Stands, stance}
 use Rattle.lfh_claims.specs.Search.{own_slot}
-use Rattle.lfh_search.specs.SpanHints.{FindsHint, FindsNoHint}
+use Rattle.lfh_spans.specs.Hints.{FindsHint, FindsNoHint}
 use Rattle.lfh_search.specs.declared.course.Course.{Course}
 use Rattle.lfh_search.specs.declared.hint.Found.{Found}
 use Rattle.lfh_search.specs.Acts.{by, AreReadings, losses, AreDry}

@@ -22,7 +22,7 @@ use Rattle.backend_fit.specs.Kept.{Kept, area_of, layer_of}
 use Rattle.heap_gate.specs.Token.{Token, now, Always, is_out}
 use Rattle.lfh_claims.specs.Search.{own_slot}
 use Rattle.lfh_claims.specs.Stays.{HasRead}
-use Rattle.lfh_search.specs.SpanSubsegments.{IsBackOf}
+use Rattle.lfh_spans.specs.Subsegments.{IsBackOf}
 use Rattle.lfh_search.specs.declared.course.Course.{Course}
 use Rattle.lfh_search.specs.Descriptors.{head_mask, head_mark}
 use Rattle.lfh_search.specs.Standing.{key, dried, stage_onto, read_onto}

@@ -6,5 +6,3 @@ pub mod Results
 pub mod Readings
 pub mod Hints
 pub mod Passes
-pub mod SpanHints
-pub mod SpanSubsegments

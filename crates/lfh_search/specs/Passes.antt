@@ -9,7 +9,7 @@ use Rattle.heap_soundness.specs.Sound.{IsOneOf}
 use Rattle.backend_fit.specs.Kept.{Kept, area_of}
 use Rattle.heap_gate.specs.Token.{Token, Always, now, is_out}
 use Rattle.lfh_claims.specs.Search.{own_slot}
-use Rattle.lfh_search.specs.SpanSubsegments.{IsBackOf}
+use Rattle.lfh_spans.specs.Subsegments.{IsBackOf}
 use Rattle.lfh_search.specs.declared.course.Course.{Course}
 use Rattle.lfh_search.specs.declared.pass.Pass.{Pass}
 use Rattle.lfh_search.specs.declared.pass.Pass.TheVariants.{Claimed, Dry, Beaten}

@@ -10,10 +10,11 @@ ghost use Rattle.lfh_search.specs.Hints.{HintSearched};
 
 use crate::course::Course;
 use crate::reading::{LOSSES, Reading, read_subsegment};
-use crate::stub::Lfh;
+
 use heap_gate::{Caller, Heap};
 use heap_model::Stands;
 use lfh_buckets::block_at;
+use lfh_spans::hint_of;
 use random_pick::Draw;
 
 /// A block of a subsegment, in hand.
@@ -40,7 +41,7 @@ pub enum First {
 ///
 /// A search that is spent has found the hint empty, has read every word in use of that subsegment without a free block, or has lost
 /// eight claims: then it may go on under the back end's lock.
-pub fn search_hint<T: Stands, L: Lfh>(
+pub fn search_hint<T: Stands>(
     heap: &Heap<T>,
     c: &mut Caller<T>,
     bucket: u8,
@@ -58,7 +59,7 @@ pub fn search_hint<T: Stands, L: Lfh>(
 {
     c.check();
     let _limits = heap.limits();
-    let Some(head) = L::hint_of(heap, c, bucket) else {
+    let Some(head) = hint_of(heap, c, bucket) else {
         return First::Spent { lost: 0 };
     };
     match read_subsegment(heap, c, &Course::new(bucket, draw), head, 0) {

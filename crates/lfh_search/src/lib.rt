@@ -2,13 +2,12 @@
 //!
 //! A search goes by one draw. It reads the words of the subsegment that the hint names, without a lock, and claims the block that
 //! the draw picks; claims may be lost to other callers, at most eight in a call. What it does not find there it looks for under the
-//! back end's lock, in all subsegments of the bucket and of the caller's slot, and then makes a subsegment.
+//! back end's lock, in all subsegments of the bucket and of the caller's slot.
 #![tactic(auto)]
 
-pub mod course;
-pub mod hint;
-pub mod pass;
-pub mod reading;
-pub mod stub;
+mod course;
+mod hint;
+mod pass;
+mod reading;
 
-
+pub use hint::{First, Found, search_hint};
