@@ -1,7 +1,7 @@
 -- The first pages of the subsegments of a bucket and a slot, as the descriptor words show them.
-use Rattle.std.proofs.Common.{◌≡◌, ◌⊎◌, ℕ, zero, suc, ◌+◌, ◌-◌, ◌*◌, ◌/◌, ◌%◌, ◌<◌, ◌≤◌, ◌==◌, Bool, true, false, ◌&&◌, ◌||◌, not, List, [], ◌∷◌, Option, Some, None, inl, inr, refl, sym, ap, ◌∙◌, subst, arith, eqb, eq-eqb, ne_eqb, length, bit_and, get_or, add-zero}
-use Rattle.std.specs.Prelude.{slice_index, filter, map, nat_lt}
-use Rattle.std.proofs.lemmas.Bool.{cases_Bool, cases_lt, cases_eq, and_from, and_parts, eqb-true, lt-ltb, le-ltb, false≢true, true≢false}
+use Rattle.std.proofs.Common.{◌≡◌, ℕ, zero, suc, ◌+◌, ◌-◌, ◌*◌, ◌/◌, ◌%◌, ◌<◌, ◌≤◌, Bool, true, false, ◌&&◌, not, List, [], ◌∷◌, Some, None, inl, inr, refl, sym, ap, ◌∙◌, subst, arith, eqb, eq-eqb, bit_and, add-zero}
+use Rattle.std.specs.Prelude.{slice_index, filter, nat_lt}
+use Rattle.std.proofs.lemmas.Bool.{cases_Bool, cases_lt, and_from, and_parts, eqb-true, lt-ltb, le-ltb}
 use Rattle.std.proofs.lemmas.Nat.{and_mask, and_block}
 use Rattle.heap_model.specs.declared.Kind.{Kind}
 use Rattle.heap_model.specs.declared.Kind.TheVariants as kinds
@@ -10,10 +10,9 @@ use Rattle.heap_model.specs.declared.Run.{Run}
 use Rattle.heap_model.specs.State.{Span, is_kind, kind_number}
 use Rattle.heap_model.specs.Search.{is_span_of, first_of}
 use Rattle.heap_soundness.specs.Sound.{IsOneOf, AreInOrder}
-use Rattle.heap_soundness.proofs.GapRuns.{in_filtered, filtered_cases}
 use Rattle.heap_soundness.proofs.Enums.{kind_is}
 use Rattle.heap_soundness.proofs.Spans.{above}
-use Rattle.page_ranges.specs.Words.{first_word, later_word, word_in, header_run}
+use Rattle.page_ranges.specs.Words.{later_word, word_in, header_run}
 use Rattle.page_ranges.specs.Ranges.{IsRun, IsMarkedRun, AreRuns}
 use Rattle.page_ranges.specs.Spans.{is_of_span, span_of, spans_in}
 use Rattle.page_ranges.proofs.Decode.{kind_small}
@@ -68,7 +67,7 @@ is_mine : (b t : ℕ) (r : Run) → r.mark.kind ≡ kinds.Lfh → r.mark.bucket 
 is_mine b t r k e f = and_from (is_kind r.mark.kind kinds.Lfh && eqb r.mark.bucket b) (eqb r.mark.slot t)
     (and_from (is_kind r.mark.kind kinds.Lfh) (eqb r.mark.bucket b) (ap (λ (x : Kind). is_kind x kinds.Lfh) k) (eq-eqb r.mark.bucket b e)) (eq-eqb r.mark.slot t f)
 
-mine_parts : (b t : ℕ) (x : Span) → is_span_of b t x ≡ true → (x.kind ≡ kinds.Lfh) × (x.bucket ≡ b) × (x.slot ≡ t)
+pub mine_parts : (b t : ℕ) (x : Span) → is_span_of b t x ≡ true → (x.kind ≡ kinds.Lfh) × (x.bucket ≡ b) × (x.slot ≡ t)
 mine_parts b t x h =
     let p = and_parts (is_kind x.kind kinds.Lfh && eqb x.bucket b) (eqb x.slot t) h in
     let q = and_parts (is_kind x.kind kinds.Lfh) (eqb x.bucket b) p.0 in

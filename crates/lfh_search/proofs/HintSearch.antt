@@ -1,19 +1,18 @@
 -- The first pass of a search: the hint, and the subsegment that it names.
-use Rattle.std.proofs.Common.{◌≡◌, ◌⊎◌, inl, inr, ⊎_elim, ℕ, zero, suc, ◌+◌, ◌*◌, ◌<◌, ◌≤◌, ◌==◌, Bool, true, false, ◌&&◌, ◌||◌, List, [], ◌∷◌, ◌++◌, Option, Some, None, refl, sym, ap, ◌∙◌, subst, arith, eq-eqb}
+use Rattle.std.proofs.Common.{◌≡◌, inl, ⊎_elim, ℕ, ◌+◌, ◌<◌, ◌==◌, true, false, ◌&&◌, ◌||◌, List, [], ◌∷◌, Option, Some, refl, sym, ap, ◌∙◌, subst, arith, eq-eqb}
 use Rattle.std.specs.List.{list_any}
-use Rattle.std.proofs.lemmas.Bool.{and_from, or_left, or_right, both_ways, false≢true}
+use Rattle.std.proofs.lemmas.Bool.{and_from, or_left, or_right, both_ways}
 use Rattle.heap_model.specs.declared.Act.{Act}
 use Rattle.heap_model.specs.declared.Act.TheVariants as acts
 use Rattle.heap_model.specs.declared.What.TheVariants as whats
 use Rattle.heap_model.specs.Buckets.{words_in_use, block_address}
 use Rattle.heap_model.specs.Stay.{is_some_of}
-use Rattle.heap_model.specs.State.{Setting, Span, holds}
-use Rattle.heap_model.specs.CallState.{Search, CallerView, not_begun, NotBegun, caller_view}
+use Rattle.heap_model.specs.State.{holds}
+use Rattle.heap_model.specs.CallState.{Search, CallerView, not_begun, caller_view}
 use Rattle.heap_model.specs.Search.{SearchKey, spans_of, begins_at, hint, first_word, may_see, after_no_hint}
 use Rattle.heap_soundness.proofs.Lists.{any_in}
 use Rattle.heap_soundness.specs.Sound.{IsOneOf}
 use Rattle.search_laws.specs.Reading.{word_behind}
-use Rattle.claim_rule.specs.Entries.{IsSettingOf}
 use Rattle.block_steps.specs.Searches.{MayHint, IsHinted}
 use Rattle.block_steps.proofs.Searches.{among_seen}
 use Rattle.heap_gate.specs.Token.{Token, now, Always, is_out, IsStanding}
@@ -25,7 +24,7 @@ use Rattle.lfh_search.specs.declared.hint.Found.{Found}
 use Rattle.lfh_search.specs.Acts.{by, AreReadings, losses, AreDry}
 use Rattle.lfh_search.specs.Standing.{key, dried}
 use Rattle.lfh_search.specs.Results.{Searches, Went, MayBegin, IsIn, HasPlaced, IsBeaten}
-use Rattle.lfh_search.specs.Readings.{HasHint, CanRead, IsDried}
+use Rattle.lfh_search.specs.Readings.{CanRead, IsDried}
 use Rattle.lfh_search.specs.Hints.{NoHint, AllDry, Eighth, HasSpentHint, HasFound}
 use Rattle.lfh_search.proofs.Steps.{runs_then}
 use Rattle.lfh_search.proofs.Words.{searches_on, same_slot}
@@ -78,8 +77,8 @@ module _ (c : Token) (b d : ℕ) (h : Searches c b d not_begun) (free : is_out w
         let z = hinted s q in
         let there : list_any (begins_at head) (spans_of m.state.back.area b (own_slot e)) ≡ true = any_in (begins_at head) (spans_of m.state.back.area b (own_slot e)) z.seen.span (among_seen m head b (own_slot e) z.seen) (eq-eqb z.seen.span.first head z.seen.begins) in
         let right : (m.now.disturbed e.number || is_some_of (hint m.state.back.area m.now.span_history b (own_slot e)) head) ≡ true = ⊎_elim
-            (λ (u : m.now.disturbed e.number ≡ true). or_left (m.now.disturbed e.number) _ u)
-            (λ (u : hint m.state.back.area m.now.span_history b (own_slot e) ≡ Some head). or_right (m.now.disturbed e.number) _ (ap (λ (o : Option ℕ). is_some_of o head) u ∙ eq-eqb head head refl)) z.right in
+        (λ (u : m.now.disturbed e.number ≡ true). or_left (m.now.disturbed e.number) _ u)
+        (λ (u : hint m.state.back.area m.now.span_history b (own_slot e) ≡ Some head). or_right (m.now.disturbed e.number) _ (ap (λ (o : Option ℕ). is_some_of o head) u ∙ eq-eqb head head refl)) z.right in
         ap (λ (w : CallerView). may_see m.state.back.area m.now.span_history (m.now.disturbed e.number) w g head (first_word g)) (seen_by (caller_view m e.number) not_begun (searching s q).search)
         ∙ and_from (first_word g == first_word g && list_any (begins_at head) (spans_of m.state.back.area b (own_slot e))) _
         (and_from (first_word g == first_word g) _ (eq-eqb (first_word g) (first_word g) refl) there) right
@@ -104,22 +103,25 @@ module _ (c : Token) (b d : ℕ) (h : Searches c b d not_begun) (free : is_out w
 
       behind : (its : List Act) → AreReadings its → Went e n its → (its ≡ [] → ⊥) → Runs c n (by c.number its) × Stands n (record (stance c) { searched = true })
       behind [] are w some = absurd (some refl)
-      behind (x ∷ its) are w some = (runs_then c e n [] (x ∷ its) are r.runs w.0, record {
-        call = w.1.call ∙ r.stands.call;
-        fresh = w.1.fresh ∙ r.stands.fresh;
-        locked = w.1.locked ∙ r.stands.locked;
-        inside = w.1.inside ∙ r.stands.inside;
-        depth = w.1.depth ∙ r.stands.depth;
-        out = w.1.out ∙ r.stands.out;
-        owes = w.1.owes ∙ r.stands.owes;
-        free = w.1.free ∙ r.stands.free;
-        searches = w.1.searches ∙ r.stands.searches;
-        searched = w.1.searched;
-        drawn = w.1.drawn ∙ r.stands.drawn;
-        whole = w.1.whole;
-        pending = w.1.pending;
-        prepared = w.1.prepared;
-      })
+      behind (x ∷ its) are w some = (
+        runs_then c e n [] (x ∷ its) are r.runs w.0,
+        record {
+          call = w.1.call ∙ r.stands.call;
+          fresh = w.1.fresh ∙ r.stands.fresh;
+          locked = w.1.locked ∙ r.stands.locked;
+          inside = w.1.inside ∙ r.stands.inside;
+          depth = w.1.depth ∙ r.stands.depth;
+          out = w.1.out ∙ r.stands.out;
+          owes = w.1.owes ∙ r.stands.owes;
+          free = w.1.free ∙ r.stands.free;
+          searches = w.1.searches ∙ r.stands.searches;
+          searched = w.1.searched;
+          drawn = w.1.drawn ∙ r.stands.drawn;
+          whole = w.1.whole;
+          pending = w.1.pending;
+          prepared = w.1.prepared;
+        },
+      )
 
       pub dries : (lost : ℕ) → 0 < words_in_use b → IsDried e n b d not_begun head 0 lost → HasSpentHint c n b d lost
       dries lost some x =

@@ -9,3 +9,4 @@ pub mod WordLoop
 pub mod Subsegment
 pub mod HintSearch
 pub mod Passing
+pub mod Passed

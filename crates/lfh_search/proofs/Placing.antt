@@ -1,5 +1,5 @@
 -- A block of the front end that is placed behind readings.
-use Rattle.std.proofs.Common.{◌≡◌, ℕ, ◌+◌, ◌/◌, Bool, true, false, List, [], ◌∷◌, ◌++◌, refl, sym, ap, ◌∙◌, subst, eq-eqb, append_assoc}
+use Rattle.std.proofs.Common.{◌≡◌, ℕ, ◌/◌, Bool, true, List, [], ◌∷◌, ◌++◌, refl, sym, ap, ◌∙◌, subst, eq-eqb, append_assoc}
 use Rattle.heap_model.specs.declared.Act.{Act}
 use Rattle.heap_model.specs.declared.Act.TheVariants as acts
 use Rattle.heap_model.specs.declared.Entry.{Entry}
@@ -13,13 +13,13 @@ use Rattle.heap_model.specs.History.{configuration_after}
 use Rattle.heap_model.specs.Agreement.{AgreesFor}
 use Rattle.heap_model.proofs.Others.{agrees_trans}
 use Rattle.heap_model.proofs.Own.{call_own}
-use Rattle.claim_rule.specs.Entries.{IsSettingOf, entry}
+use Rattle.claim_rule.specs.Entries.{entry}
 use Rattle.claim_rule.proofs.Lists.{after-append}
 use Rattle.heap_model.specs.Buckets.{block_address, block_size}
 use Rattle.step_parts.specs.InHand.{HasBlock}
 use Rattle.step_parts.specs.Claims.{owed_by_place}
 use Rattle.heap_gate.specs.Token.{Token, now, Always, is_out}
-use Rattle.heap_gate.specs.Calls.{Does, Runs, Stands, stance}
+use Rattle.heap_gate.specs.Calls.{Runs, Stands, stance}
 use Rattle.data_words.proofs.Copying.{does_then}
 use Rattle.lfh_claims.specs.Moves.{Moves, block_place}
 use Rattle.lfh_claims.specs.Search.{own_slot}

@@ -1,22 +1,19 @@
 -- A search that reads a subsegment, word by word.
-use Rattle.std.proofs.Common.{◌≡◌, ◌⊎◌, inl, inr, ℕ, zero, suc, ◌+◌, ◌*◌, ◌/◌, ◌%◌, ◌<◌, ◌≤◌, ◌==◌, Bool, true, false, ◌&&◌, ◌||◌, not, List, [], ◌∷◌, Option, Some, None, refl, sym, ap, ◌∙◌, subst, arith, eqb, eq-eqb, ne_eqb, if◌then◌else◌, add-zero, mod-eq_of_lt}
-use Rattle.std.specs.Prelude.{nat_lt, is_none, is_some}
-use Rattle.std.proofs.lemmas.Bool.{lt-ltb, and_from, and_parts, false≢true}
-use Rattle.std.proofs.lemmas.Nat.{mod_below}
-use Rattle.heap_model.specs.declared.Act.TheVariants as acts
-use Rattle.heap_model.specs.Buckets.{words_in_use, valid_bits, block_count}
+use Rattle.std.proofs.Common.{◌≡◌, ◌⊎◌, inl, inr, ℕ, ◌+◌, ◌*◌, ◌%◌, ◌<◌, ◌==◌, Bool, true, false, ◌||◌, List, [], ◌∷◌, Option, Some, None, refl, sym, ap, ◌∙◌, arith, eq-eqb, ne_eqb}
+use Rattle.std.specs.Prelude.{nat_lt}
+use Rattle.std.proofs.lemmas.Bool.{lt-ltb, and_from, false≢true}
+use Rattle.heap_model.specs.Buckets.{words_in_use, valid_bits}
 use Rattle.heap_model.specs.Bits.{pick}
 use Rattle.heap_model.specs.Stay.{is_some_of}
-use Rattle.heap_model.specs.State.{Area, Setting, is_entered}
-use Rattle.heap_model.specs.CallState.{Configuration, CallState, CallerView, Search, Stage, NotBegun, AtHint, FirstPass, SecondPass, SpanHistory, caller_view}
-use Rattle.heap_model.specs.Search.{SearchKey, search_key_of, first_word, next_word, last_read, head_of, goes_on, may_see, may_see_at, may_claim, onto_span, onto_span_at, after_saw, after_pick, has_not_begun}
+use Rattle.heap_model.specs.State.{Area, Setting}
+use Rattle.heap_model.specs.CallState.{Configuration, CallerView, Search, Stage, NotBegun, AtHint, FirstPass, SecondPass, SpanHistory, caller_view}
+use Rattle.heap_model.specs.Search.{SearchKey, head_of, goes_on, may_see, may_see_at, may_claim, onto_span, onto_span_at, after_saw, after_pick, has_not_begun}
 use Rattle.search_laws.specs.Reading.{word_behind}
 use Rattle.heap_soundness.proofs.Picks.{pick_below}
 use Rattle.step_parts.specs.Seen.{IsSeen}
 use Rattle.step_parts.specs.Claims.{MayClaim}
 use Rattle.block_steps.specs.Searches.{MaySee}
 use Rattle.lfh_search.proofs.Steps.{keyed}
-use Rattle.lfh_search.specs.Acts.{after_act}
 use Rattle.lfh_search.specs.Standing.{key, IsSearching, IsBetween, stage_onto, read_onto, reading, dried}
 
 ---- What a reading makes of the search

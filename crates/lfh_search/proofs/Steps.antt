@@ -1,5 +1,5 @@
 -- What the acts of a search leave to their caller, and how lists of them join.
-use Rattle.std.proofs.Common.{◌≡◌, ℕ, ◌+◌, ◌==◌, Bool, true, false, ◌&&◌, ◌||◌, not, List, [], ◌∷◌, ◌++◌, Option, Some, None, refl, sym, ap, ◌∙◌, subst, append_assoc, eq-eqb}
+use Rattle.std.proofs.Common.{◌≡◌, ℕ, Bool, true, false, ◌||◌, List, [], ◌∷◌, ◌++◌, Option, Some, None, refl, sym, ap, ◌∙◌, subst, eq-eqb}
 use Rattle.std.specs.Prelude.{is_some, option_and_then}
 use Rattle.std.specs.List.{find}
 use Rattle.std.proofs.lemmas.Bool.{false≢true}
@@ -13,9 +13,9 @@ use Rattle.heap_model.specs.Buckets.{bucket_of}
 use Rattle.heap_model.specs.Stay.{for_some}
 use Rattle.heap_model.specs.State.{Setting, State, Place, updated, hands, is_entered, exclusive_places, has_address}
 use Rattle.heap_model.specs.CallState.{Configuration, CallState, Nothing, Search, CallerView, caller_view}
-use Rattle.heap_model.specs.Search.{SearchKey, search_key_of, request_of, request_for, sought, searched, asked_bucket, draw_of, after_saw, after_lost, after_no_hint}
-use Rattle.heap_model.specs.Legal.{after, step_search, with_search, may_touch, call_after}
-use Rattle.heap_model.specs.History.{configuration_after, own}
+use Rattle.heap_model.specs.Search.{SearchKey, search_key_of, request_of, request_for, sought, asked_bucket, draw_of, after_saw, after_lost, after_no_hint}
+use Rattle.heap_model.specs.Legal.{after, step_search, with_search, may_touch}
+use Rattle.heap_model.specs.History.{configuration_after}
 use Rattle.heap_model.specs.Agreement.{AgreesFor, holds_old_block, moves_exclusive, is_exclusive_at}
 use Rattle.heap_model.proofs.Others.{agrees_trans}
 use Rattle.heap_model.proofs.Own.{call_own}
@@ -23,9 +23,9 @@ use Rattle.heap_model.proofs.Stable.{caller_view_same, same_exclusive, same_sear
 use Rattle.heap_soundness.proofs.MadeSpans.{search_is}
 use Rattle.heap_soundness.proofs.Picks.{sought_asked}
 use Rattle.claim_rule.specs.Entries.{IsSettingOf, entry}
-use Rattle.claim_rule.proofs.Lists.{after-append, prefix_trans, setting_less}
+use Rattle.claim_rule.proofs.Lists.{after-append, setting_less}
 use Rattle.heap_gate.specs.Token.{Token, now}
-use Rattle.heap_gate.specs.Calls.{Does, Runs, Stands, stance}
+use Rattle.heap_gate.specs.Calls.{Does, Runs}
 use Rattle.data_words.proofs.Copying.{does_then}
 use Rattle.lfh_search.specs.Acts.{by, is_reading, AreReadings, after_act, after_acts}
 use Rattle.lfh_search.specs.Standing.{key, IsSearching}

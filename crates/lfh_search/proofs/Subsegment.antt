@@ -1,12 +1,11 @@
 -- A subsegment that is read word by word.
-use Rattle.std.proofs.Common.{◌≡◌, ◌⊎◌, inl, inr, ℕ, zero, suc, ◌+◌, ◌*◌, ◌/◌, ◌%◌, ◌<◌, ◌≤◌, ◌==◌, Bool, true, false, List, [], ◌∷◌, ◌++◌, Option, Some, None, refl, sym, ap, ◌∙◌, subst, arith, eqb, eq-eqb, ne_eqb, if◌then◌else◌, add-zero, mod-eq_of_lt}
+use Rattle.std.proofs.Common.{◌≡◌, inl, inr, ℕ, ◌+◌, ◌/◌, ◌%◌, ◌<◌, ◌≤◌, ◌==◌, true, false, List, [], ◌∷◌, ◌++◌, refl, sym, ap, ◌∙◌, subst, arith, eq-eqb, ne_eqb, if◌then◌else◌, add-zero, mod-eq_of_lt}
 use Rattle.std.proofs.lemmas.Bool.{cases_eq, cases_lt}
 use Rattle.std.proofs.lemmas.Nat.{mod_below}
 use Rattle.heap_model.specs.declared.Act.{Act}
-use Rattle.heap_model.specs.Buckets.{words_in_use, block_count}
+use Rattle.heap_model.specs.Buckets.{words_in_use}
 use Rattle.heap_model.specs.CallState.{Search}
 use Rattle.heap_soundness.specs.Sound.{IsOneOf}
-use Rattle.search_laws.specs.Reading.{word_behind}
 use Rattle.lfh_buckets.specs.Blocks.{IsBucket}
 use Rattle.lfh_buckets.proofs.BlockLemmas.{few_blocks}
 use Rattle.heap_gate.specs.Token.{Token}
@@ -15,9 +14,9 @@ use Rattle.lfh_search.specs.declared.course.Course.{Course}
 use Rattle.lfh_search.specs.declared.reading.Reading.{Reading}
 use Rattle.lfh_search.specs.declared.reading.Reading.TheVariants.{Claimed, Dry, Beaten}
 use Rattle.lfh_search.specs.Acts.{AreReadings, losses, IsDry, AreDry}
-use Rattle.lfh_search.specs.Standing.{key, dried}
+use Rattle.lfh_search.specs.Standing.{key}
 use Rattle.lfh_search.specs.Courses.{IsCourse}
-use Rattle.lfh_search.specs.Results.{Searches, Went, IsIn, IsPast, HasPlaced, IsBeaten}
+use Rattle.lfh_search.specs.Results.{Searches, Went, IsPast, HasPlaced, IsBeaten}
 use Rattle.lfh_search.specs.Readings.{AtWord, HasHint, IsDryWord, WordRead, CanRead, IsDried, SubsegmentRead}
 use Rattle.lfh_search.proofs.Steps.{readings-append}
 use Rattle.lfh_search.proofs.Words.{went_then, same_slot}
@@ -130,8 +129,6 @@ begins c course head lost h w i = record {
         let u = in_use course.bucket h.bucket in
         let l = mod_below (course.draw.value / 64) (words_in_use course.bucket) u.0 in
         sym (ap (λ (n : ℕ). n % words_in_use course.bucket) (add-zero course.first) ∙ mod_self course.first (words_in_use course.bucket) (subst (λ (n : ℕ). n < words_in_use course.bucket) (sym h.first) l))
-
-
 
 module _ (old c : Token) (course : Course) (f : Search) (head k lost so_far word : ℕ) (z : Goes old c course f head k lost so_far) (m : k < words_in_use course.bucket) (y : IsBetweenWords old c course head lost k so_far word) (h : IsCourse course) where
   abbrev b : ℕ

@@ -1,6 +1,5 @@
 -- A word that is read until it is dry, a block is claimed, or the eighth claim is lost.
-use Rattle.std.proofs.Common.{◌≡◌, ◌⊎◌, inl, inr, ℕ, zero, suc, ◌+◌, ◌*◌, ◌%◌, ◌<◌, ◌≤◌, Bool, true, false, List, [], ◌∷◌, ◌++◌, Option, Some, None, refl, sym, ap, ◌∙◌, subst, arith, length}
-use Rattle.std.proofs.lemmas.List.{append-nil}
+use Rattle.std.proofs.Common.{◌≡◌, inl, inr, ℕ, ◌+◌, ◌*◌, ◌%◌, ◌<◌, ◌≤◌, true, List, [], ◌∷◌, ◌++◌, Option, Some, None, refl, sym, ap, ◌∙◌, subst, arith}
 use Rattle.heap_model.specs.declared.Act.{Act}
 use Rattle.heap_model.specs.declared.Act.TheVariants as acts
 use Rattle.heap_model.specs.Buckets.{words_in_use, valid_bits}
@@ -17,9 +16,9 @@ use Rattle.heap_gate.specs.Token.{Token, now, Always}
 use Rattle.lfh_search.specs.Courses.{IsCourse}
 use Rattle.lfh_claims.specs.Search.{own_slot, sought, HasSeen, HasClaimed, HasLost}
 use Rattle.lfh_search.specs.declared.course.Course.{Course}
-use Rattle.lfh_search.specs.Acts.{AreReadings, losses, IsDry}
+use Rattle.lfh_search.specs.Acts.{AreReadings, losses}
 use Rattle.lfh_search.specs.Standing.{key, reading}
-use Rattle.lfh_search.specs.Results.{Searches, Went, IsIn, IsPast, HasPlaced, IsBeaten}
+use Rattle.lfh_search.specs.Results.{Searches, Went, HasPlaced, IsBeaten}
 use Rattle.lfh_search.specs.Readings.{AtWord, HasHint, IsDryWord}
 use Rattle.lfh_search.proofs.Steps.{readings-append}
 use Rattle.lfh_search.proofs.Words.{went_then}

@@ -1,11 +1,9 @@
 -- One word of a subsegment: what each reading and each claim leaves.
-use Rattle.std.proofs.Common.{◌≡◌, ◌⊎◌, inl, inr, ℕ, zero, suc, ◌+◌, ◌*◌, ◌/◌, ◌%◌, ◌<◌, ◌≤◌, Bool, true, false, List, [], ◌∷◌, ◌++◌, Option, Some, None, refl, sym, ap, ◌∙◌, subst, arith}
-use Rattle.std.proofs.lemmas.List.{append-nil}
+use Rattle.std.proofs.Common.{◌≡◌, ◌⊎◌, inl, inr, ℕ, ◌+◌, ◌*◌, ◌/◌, ◌%◌, ◌<◌, true, List, [], ◌∷◌, Some, None, refl, sym, ap, ◌∙◌, subst}
 use Rattle.heap_model.specs.declared.Act.{Act}
 use Rattle.heap_model.specs.declared.Act.TheVariants as acts
 use Rattle.heap_model.specs.Buckets.{words_in_use, valid_bits, block_count, block_address, block_size}
 use Rattle.heap_model.specs.Bits.{pick}
-use Rattle.heap_model.specs.State.{Setting}
 use Rattle.heap_model.specs.CallState.{Search, caller_view}
 use Rattle.heap_model.specs.Search.{SearchKey, may_see, after_lost}
 use Rattle.search_laws.specs.Reading.{word_behind}
@@ -16,17 +14,15 @@ use Rattle.heap_model.specs.declared.What.TheVariants as whats
 use Rattle.step_parts.specs.Claims.{MayClaim, owed_by_place}
 use Rattle.step_parts.specs.InHand.{HasBlock}
 use Rattle.block_steps.specs.Searches.{MaySee}
-use Rattle.claim_rule.specs.Entries.{IsSettingOf, entry}
+use Rattle.claim_rule.specs.Entries.{entry}
 use Rattle.heap_gate.specs.Token.{Token, now, Always, is_out}
-use Rattle.heap_gate.specs.Calls.{Runs, Stands, stance}
 use Rattle.lfh_claims.specs.Search.{sought, own_slot, own_hint, HasSeen, HasClaimed, HasLost}
 use Rattle.lfh_claims.specs.Moves.{Moves, block_place}
 use Rattle.lfh_claims.specs.Stays.{HasRead}
-use Rattle.lfh_search.specs.Acts.{by, AreReadings, losses, after_acts}
-use Rattle.lfh_search.specs.Standing.{key, IsSearching, IsBetween, reading, dried}
-use Rattle.lfh_search.specs.Results.{Searches, Went, MayBegin, IsBefore, IsIn, IsPast, HasPlaced, IsBeaten}
+use Rattle.lfh_search.specs.Acts.{after_acts}
+use Rattle.lfh_search.specs.Standing.{key, reading}
+use Rattle.lfh_search.specs.Results.{Searches, Went, IsBefore, IsIn, IsPast, HasPlaced}
 use Rattle.lfh_search.specs.Readings.{HasHint}
-use Rattle.lfh_search.proofs.Steps.{by-append}
 use Rattle.lfh_search.proofs.Readings.{StandsIn, within, sees, claims, passes, ends, picks}
 use Rattle.lfh_search.proofs.Words.{sought_is, searches_on, same_slot, hint_on, went_then}
 use Rattle.lfh_search.proofs.Seen.{seen_on, waits_none}
@@ -142,22 +138,25 @@ module _ (c : Token) (b d : ℕ) (f : Search) (head k lost : ℕ) (z : IsIn c b 
         both = acts.Saw head word bits ∷ acts.Lost head (64 * word + i) ∷ []
 
         pub lost_went : Went c a both
-        lost_went = went_then c e a saw lose (refl, tt) saw_went (h'.runs, record {
-          call = h'.stands.call;
-          fresh = h'.stands.fresh;
-          locked = h'.stands.locked;
-          inside = h'.stands.inside;
-          depth = h'.stands.depth;
-          out = h'.stands.out;
-          owes = h'.stands.owes;
-          free = h'.stands.free;
-          searches = h'.stands.searches;
-          searched = h'.stands.searched ∙ h.stands.searched;
-          drawn = h'.stands.drawn;
-          whole = h'.stands.whole;
-          pending = h'.stands.pending;
-          prepared = h'.stands.prepared;
-        })
+        lost_went = went_then c e a saw lose (refl, tt) saw_went (
+          h'.runs,
+          record {
+            call = h'.stands.call;
+            fresh = h'.stands.fresh;
+            locked = h'.stands.locked;
+            inside = h'.stands.inside;
+            depth = h'.stands.depth;
+            out = h'.stands.out;
+            owes = h'.stands.owes;
+            free = h'.stands.free;
+            searches = h'.stands.searches;
+            searched = h'.stands.searched ∙ h.stands.searched;
+            drawn = h'.stands.drawn;
+            whole = h'.stands.whole;
+            pending = h'.stands.pending;
+            prepared = h'.stands.prepared;
+          },
+        )
 
         pub searching_lost : Searches a b d (reading f head k (lost + 1))
         searching_lost = subst (Searches a b d) (ap after_lost picked_is) (searches_on e a lose (refl, tt) h'.runs b d (after_acts g z.search saw) searching)

@@ -1,29 +1,26 @@
 -- What the acts of a search leave to the caller that knows how its search stands.
-use Rattle.std.proofs.Common.{◌≡◌, ◌⊎◌, inl, inr, ℕ, zero, suc, ◌+◌, ◌*◌, ◌/◌, ◌%◌, ◌<◌, ◌≤◌, Bool, true, false, List, [], ◌∷◌, ◌++◌, Option, Some, None, refl, sym, ap, ◌∙◌, subst, arith, append_assoc, length}
-use Rattle.std.specs.Prelude.{unwrap_or, is_some}
+use Rattle.std.proofs.Common.{◌≡◌, ℕ, ◌+◌, ◌*◌, true, List, [], ◌∷◌, ◌++◌, Option, refl, sym, ap, ◌∙◌, subst}
+use Rattle.std.specs.Prelude.{unwrap_or}
 use Rattle.std.proofs.lemmas.Bool.{false≢true}
 use Rattle.std.proofs.lemmas.List.{append-nil}
 use Rattle.heap_model.specs.declared.Act.{Act}
 use Rattle.heap_model.specs.declared.Act.TheVariants as acts
-use Rattle.heap_model.specs.declared.Entry.{Entry}
-use Rattle.heap_model.specs.declared.Opening.{Opening}
 use Rattle.heap_model.specs.declared.What.TheVariants as whats
-use Rattle.heap_model.specs.State.{State, Setting, BackPart, holds, hands}
-use Rattle.heap_model.specs.CallState.{Configuration, SpanHistory, Search}
+use Rattle.heap_model.specs.State.{State, Setting, holds}
+use Rattle.heap_model.specs.CallState.{Configuration, Search}
 use Rattle.heap_model.specs.Legal.{after}
 use Rattle.heap_model.specs.History.{configuration_after}
-use Rattle.heap_model.specs.Agreement.{AgreesFor}
-use Rattle.claim_rule.specs.Entries.{IsSettingOf, setting_of, slot_at, entry}
+use Rattle.claim_rule.specs.Entries.{IsSettingOf, setting_of, entry}
 use Rattle.claim_rule.specs.Shown.{hint_word, owed_or}
 use Rattle.claim_rule.proofs.Advance.{some_setting}
 use Rattle.heap_gate.specs.Token.{Token, now, Always, is_out}
-use Rattle.heap_gate.specs.Calls.{Does, Runs, Stands, stance}
-use Rattle.lfh_claims.specs.Search.{sought, own_slot, own_hint, IsHintKnown}
+use Rattle.heap_gate.specs.Calls.{Runs}
+use Rattle.lfh_claims.specs.Search.{sought, own_slot, own_hint}
 use Rattle.lfh_search.specs.Acts.{by, is_reading, AreReadings, after_acts}
 use Rattle.lfh_search.specs.Standing.{key, IsSearching}
 use Rattle.lfh_search.specs.Results.{Searches, Went}
 use Rattle.lfh_search.specs.Readings.{KnowsHint, HasHint}
-use Rattle.lfh_search.proofs.Steps.{searching_same, searching_after, earlier, runs_then, by-append, readings-append}
+use Rattle.lfh_search.proofs.Steps.{searching_same, searching_after, earlier, runs_then, by-append}
 
 ---- What it knows of its bucket and its slot
 
@@ -33,7 +30,7 @@ module _ (c : Token) (b d : ℕ) (f : Search) (h : Searches c b d f) where
 
 ---- Readings leave the state
 
-left : (s : Setting) (n : ℕ) (its : List Act) (m : Configuration) → AreReadings its → ((configuration_after s m (by n its)).state ≡ m.state) × ((configuration_after s m (by n its)).now.span_history ≡ m.now.span_history)
+pub left : (s : Setting) (n : ℕ) (its : List Act) (m : Configuration) → AreReadings its → ((configuration_after s m (by n its)).state ≡ m.state) × ((configuration_after s m (by n its)).now.span_history ≡ m.now.span_history)
 left s n [] m are = (refl, refl)
 left s n (act ∷ rest) m are =
     let e = one act are.0 in

@@ -1,12 +1,12 @@
 -- The own acts of a caller that belong to a search of the front end, and what they make of it.
-use Rattle.std.specs.Prelude.{◌≡◌, ℕ, ◌+◌, ◌%◌, ◌<◌, Bool, true, false, List, [], ◌∷◌, Option, Some, None}
+use Rattle.std.specs.Prelude.{◌≡◌, ℕ, ◌+◌, ◌%◌, ◌<◌, Bool, true, false, List, [], ◌∷◌, None}
 use Rattle.heap_model.specs.declared.Act.{Act}
 use Rattle.heap_model.specs.declared.Act.TheVariants as acts
 use Rattle.heap_model.specs.declared.Entry.{Entry}
 use Rattle.heap_model.specs.Buckets.{valid_bits}
 use Rattle.heap_model.specs.Bits.{pick}
 use Rattle.heap_model.specs.CallState.{Search}
-use Rattle.heap_model.specs.Search.{SearchKey, after_saw, after_lost, after_no_hint, after_no_span}
+use Rattle.heap_model.specs.Search.{SearchKey, after_saw, after_lost, after_no_hint}
 use Rattle.heap_soundness.specs.Sound.{IsOneOf}
 use Rattle.search_laws.specs.Reading.{word_behind}
 use Rattle.claim_rule.specs.Entries.{entry}

@@ -1,9 +1,9 @@
 -- A pass of a search over all subsegments of its bucket and slot.
-use Rattle.std.specs.Prelude.{◌≡◌, ℕ, ◌+◌, ◌<◌, nat_lt, true, false, List, [], Option, None}
+use Rattle.std.specs.Prelude.{◌≡◌, ℕ, ◌+◌, ◌<◌, nat_lt, true, false, List, [], None}
 use Rattle.heap_model.specs.declared.Act.{Act}
 use Rattle.heap_model.specs.declared.What.TheVariants as whats
 use Rattle.heap_model.specs.State.{Span}
-use Rattle.heap_model.specs.CallState.{Search, Stage, NotBegun, AtHint, FirstPass, SecondPass, caller_view}
+use Rattle.heap_model.specs.CallState.{Search, Stage, AtHint, caller_view}
 use Rattle.heap_model.specs.Search.{has_not_begun, may_pass, is_read, spans_of}
 use Rattle.heap_soundness.specs.Sound.{IsOneOf}
 use Rattle.backend_fit.specs.Kept.{Kept, area_of}

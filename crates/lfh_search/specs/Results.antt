@@ -1,12 +1,12 @@
 -- What a search comes to in the own entries of its caller.
-use Rattle.std.specs.Prelude.{◌≡◌, ◌⊎◌, ℕ, ◌+◌, ◌/◌, ◌<◌, Bool, true, false, List, [], ◌∷◌, ◌++◌, Option, Some, None}
+use Rattle.std.specs.Prelude.{◌≡◌, ◌⊎◌, ℕ, ◌+◌, ◌/◌, ◌<◌, true, false, List, [], ◌∷◌, ◌++◌, None}
 use Rattle.heap_model.specs.declared.Act.{Act}
 use Rattle.heap_model.specs.declared.Act.TheVariants as acts
 use Rattle.heap_model.specs.declared.Layer.TheVariants as layers
 use Rattle.heap_model.specs.declared.What.TheVariants as whats
 use Rattle.heap_model.specs.Buckets.{words_in_use, block_count, block_size, block_address}
-use Rattle.heap_model.specs.CallState.{Search, Configuration, NotBegun, AtHint, caller_view}
-use Rattle.heap_model.specs.Search.{SearchKey, first_word, may_see}
+use Rattle.heap_model.specs.CallState.{Search, caller_view}
+use Rattle.heap_model.specs.Search.{first_word, may_see}
 use Rattle.step_parts.specs.InHand.{HasBlock}
 use Rattle.step_parts.specs.Claims.{owed_by_place}
 use Rattle.heap_gate.specs.Token.{Token, now, Always, is_out}
@@ -14,7 +14,7 @@ use Rattle.heap_gate.specs.Calls.{Runs, Stands, stance}
 use Rattle.lfh_claims.specs.Moves.{Moves, block_place}
 use Rattle.lfh_claims.specs.Search.{own_slot}
 use Rattle.lfh_claims.specs.Stays.{all_stay, all_leave_spans, HasRead}
-use Rattle.lfh_search.specs.Acts.{by, AreReadings, losses, IsDry, AreDry}
+use Rattle.lfh_search.specs.Acts.{by, AreReadings, losses}
 use Rattle.lfh_search.specs.Standing.{key, IsSearching, IsBetween, reading, dried}
 
 -- the search of the caller, for bucket b by draw d, stands so

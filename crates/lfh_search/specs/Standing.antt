@@ -1,5 +1,5 @@
 -- Where a search of the front end stands, by the own acts of its caller.
-use Rattle.std.specs.Prelude.{◌≡◌, ◌⊎◌, ℕ, ◌+◌, ◌<◌, ◌||◌, Bool, true, false, is_some, List, [], ◌∷◌, Option, Some, None}
+use Rattle.std.specs.Prelude.{◌≡◌, ℕ, ◌<◌, ◌||◌, true, false, is_some, List, [], ◌∷◌, Some, None}
 use Rattle.heap_model.specs.State.{Setting, is_entered}
 use Rattle.heap_model.specs.Buckets.{words_in_use}
 use Rattle.heap_model.specs.CallState.{Search, Stage, NotBegun, AtHint, FirstPass, SecondPass, Configuration}

@@ -10,7 +10,6 @@ ghost use Rattle.lfh_search.specs.Hints.{HintSearched};
 
 use crate::course::Course;
 use crate::reading::{LOSSES, Reading, read_subsegment};
-
 use heap_gate::{Caller, Heap};
 use heap_model::Stands;
 use lfh_buckets::block_at;
@@ -41,12 +40,7 @@ pub enum First {
 ///
 /// A search that is spent has found the hint empty, has read every word in use of that subsegment without a free block, or has lost
 /// eight claims: then it may go on under the back end's lock.
-pub fn search_hint<T: Stands>(
-    heap: &Heap<T>,
-    c: &mut Caller<T>,
-    bucket: u8,
-    draw: Draw,
-) -> First
+pub fn search_hint<T: Stands>(heap: &Heap<T>, c: &mut Caller<T>, bucket: u8, draw: Draw) -> First
     requires table { (c.old.table ≡ heap.now.table) × (c.old.opening ≡ heap.now.opening) }
     requires whole { c.old.whole ≡ true }
     requires inside { c.old.inside ≡ true }

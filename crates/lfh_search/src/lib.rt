@@ -10,4 +10,6 @@ mod hint;
 mod pass;
 mod reading;
 
+pub use course::Course;
 pub use hint::{First, Found, search_hint};
+pub use pass::{Pass, read_all};

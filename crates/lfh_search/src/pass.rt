@@ -35,8 +35,9 @@ fn mark_of(bucket: u8, slot: u32) -> u64
     11 + (u64::from(bucket) << 24) + (u64::from(slot) << 32)
 }
 
-/// Reads the subsegments of a bucket and the caller's slot in the order of their pages, until a block is claimed or the eighth claim
-/// is lost. So many claims of the call were lost before.
+/// Reads the subsegments of a bucket and the caller's slot in the order of their pages, each from the course's first word on, until
+/// a block is claimed or the eighth claim is lost. So many claims of the call were lost before. The caller holds the back end's lock,
+/// and `back` is its state; behind a claim it owes the hint.
 pub fn read_all<T: Stands>(
     heap: &Heap<T>,
     c: &mut Caller<T>,

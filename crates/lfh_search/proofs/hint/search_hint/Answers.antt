@@ -1,11 +1,10 @@
-use Rattle.std.proofs.Common.{◌≡◌, ℕ, ◌+◌, ◌*◌, ◌<◌, sym, ap, ◌∙◌, subst, arith}
+use Rattle.std.proofs.Common.{ℕ, ◌*◌, ◌<◌, sym, ap, ◌∙◌, subst, arith}
 use Rattle.heap_model.specs.declared.Opening.{Opening}
 use Rattle.heap_model.specs.Limits.{AreValid}
-use Rattle.heap_model.specs.Buckets.{words_in_use, block_count}
+use Rattle.heap_model.specs.Buckets.{block_count}
 use Rattle.heap_model.specs.CallState.{not_begun}
-use Rattle.heap_gate.specs.Token.{Token}
 use Rattle.lfh_search.specs.Results.{HasPlaced, IsBeaten}
-use Rattle.lfh_search.specs.Readings.{CanRead, IsDried}
+use Rattle.lfh_search.specs.Readings.{IsDried}
 use Rattle.lfh_search.proofs.Subsegment.{in_use}
 use Rattle.lfh_search.proofs.HintSearch.{may_hint, finds_none, slot, can_read, found, dries, beaten}
 use Rattle.lfh_search.proofs.hint.search_hint.Goals as goal
@@ -41,18 +40,18 @@ pub returns-in-Claimed : goal.returns-in-Claimed
 returns-in-Claimed g c =
     let can = can_read c.args.c.now c.args.bucket c.args.draw.value c.requires.searches c.requires.free c.hint_of.new.c c.in-Some.head c.in-Some.ensures.found c.new.result c.new.ensures.bucket (ap (λ x. x.value) c.new.ensures.draw) in
     found c.args.c.now c.args.bucket c.args.draw.value c.requires.searches c.requires.free c.hint_of.new.c c.in-Some.head c.in-Some.ensures.found c.read_subsegment.new.c
-        (record { head = c.in-Some.head; index = c.in-Claimed.index; addr = c.block_at.result }) c.block_at.ensures
-        (subst (λ (b : ℕ). HasPlaced c.hint_of.new.c c.read_subsegment.new.c b c.in-Some.head c.in-Claimed.index) c.new.ensures.bucket (c.in-Claimed.ensures not_begun can))
+    (record { head = c.in-Some.head; index = c.in-Claimed.index; addr = c.block_at.result }) c.block_at.ensures
+    (subst (λ (b : ℕ). HasPlaced c.hint_of.new.c c.read_subsegment.new.c b c.in-Some.head c.in-Claimed.index) c.new.ensures.bucket (c.in-Claimed.ensures not_begun can))
 
 pub returns-in-Dry : goal.returns-in-Dry
 returns-in-Dry g c =
     let can = can_read c.args.c.now c.args.bucket c.args.draw.value c.requires.searches c.requires.free c.hint_of.new.c c.in-Some.head c.in-Some.ensures.found c.new.result c.new.ensures.bucket (ap (λ x. x.value) c.new.ensures.draw) in
     dries c.args.c.now c.args.bucket c.args.draw.value c.requires.searches c.requires.free c.hint_of.new.c c.in-Some.head c.in-Some.ensures.found c.read_subsegment.new.c
-        c.in-Dry.lost (in_use c.args.bucket c.requires.bucket).0
-        (subst (λ (x : ℕ × ℕ). IsDried c.hint_of.new.c c.read_subsegment.new.c x.0 x.1 not_begun c.in-Some.head 0 c.in-Dry.lost) (λ j. (c.new.ensures.bucket j, (c.new.ensures.draw j).value)) (c.in-Dry.ensures not_begun can))
+    c.in-Dry.lost (in_use c.args.bucket c.requires.bucket).0
+    (subst (λ (x : ℕ × ℕ). IsDried c.hint_of.new.c c.read_subsegment.new.c x.0 x.1 not_begun c.in-Some.head 0 c.in-Dry.lost) (λ j. (c.new.ensures.bucket j, (c.new.ensures.draw j).value)) (c.in-Dry.ensures not_begun can))
 
 pub returns-in-Beaten : goal.returns-in-Beaten
 returns-in-Beaten g c =
     let can = can_read c.args.c.now c.args.bucket c.args.draw.value c.requires.searches c.requires.free c.hint_of.new.c c.in-Some.head c.in-Some.ensures.found c.new.result c.new.ensures.bucket (ap (λ x. x.value) c.new.ensures.draw) in
     beaten c.args.c.now c.args.bucket c.args.draw.value c.requires.searches c.requires.free c.hint_of.new.c c.in-Some.head c.in-Some.ensures.found c.read_subsegment.new.c
-        (subst (λ (x : ℕ × ℕ). IsBeaten c.hint_of.new.c c.read_subsegment.new.c x.0 x.1 0) (λ j. (c.new.ensures.bucket j, (c.new.ensures.draw j).value)) (c.in-Beaten.ensures not_begun can))
+    (subst (λ (x : ℕ × ℕ). IsBeaten c.hint_of.new.c c.read_subsegment.new.c x.0 x.1 0) (λ j. (c.new.ensures.bucket j, (c.new.ensures.draw j).value)) (c.in-Beaten.ensures not_begun can))

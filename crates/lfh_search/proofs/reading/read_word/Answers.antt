@@ -1,7 +1,6 @@
-use Rattle.std.proofs.Common.{◌≡◌, ℕ, ◌+◌, ◌*◌, ◌<◌, Option, Some, None, sym, ap, ◌∙◌, subst, arith, append-nil}
+use Rattle.std.proofs.Common.{ℕ, ◌+◌, ◌*◌, ◌<◌, Some, None, sym, ap, ◌∙◌, subst, arith}
 use Rattle.heap_model.specs.declared.Opening.{Opening}
-use Rattle.heap_model.specs.Buckets.{words_in_use, block_count}
-use Rattle.lfh_search.proofs.WordLoop.{IsSoFar, begins, pick_is, seeing, dry, may_claim, here, hinted, claimed, goes_on, there, small, beaten, next}
+use Rattle.lfh_search.proofs.WordLoop.{begins, pick_is, seeing, dry, may_claim, here, hinted, claimed, goes_on, small, beaten, next}
 use Rattle.lfh_search.proofs.reading.read_word.Goals as goal
 
 pub loop-so_far-init : goal.loop-so_far-init
@@ -16,7 +15,7 @@ pub returns-in_default : goal.returns-in_default
 returns-in_default g c = λ f k at.
     let few = at.few in
     dry c.args.c.now c.loop-so_far.c c.args.course.now f c.args.head c.args.word k c.args.lost c.loop-so_far.so_far (c.loop-so_far.invariant.goes f k at) c.loop-so_far-test.true (omega (arith, few)) c.loop-so_far.invariant.slot
-        c.see-bits.new.c c.see-bits.result c.see-bits.ensures (pick_is c.args.course.now c.args.word c.see-bits.result c.pick.result None c.requires.course c.requires.there.1 c.pick.ensures c.in_default.is)
+    c.see-bits.new.c c.see-bits.result c.see-bits.ensures (pick_is c.args.course.now c.args.word c.see-bits.result c.pick.result None c.requires.course c.requires.there.1 c.pick.ensures c.in_default.is)
 
 pub claim-requires-clause-there : goal.claim-requires-clause-there
 claim-requires-clause-there g c = let at = c.requires.at in let few = at.2.few in
