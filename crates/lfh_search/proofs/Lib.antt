@@ -1,0 +1,12 @@
+pub mod Steps
+pub mod Readings
+pub mod Heads
+pub mod Words
+pub mod Seen
+pub mod Placing
+pub mod WordRead
+pub mod WordLoop
+pub mod Subsegment
+pub mod HintSearch
+pub mod Passing
+pub mod Passed

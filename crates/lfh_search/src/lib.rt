@@ -1,0 +1,15 @@
+//! The search of the low-fragmentation front end over the table that callers share.
+//!
+//! A search goes by one draw. It reads the words of the subsegment that the hint names, without a lock, and claims the block that
+//! the draw picks; claims may be lost to other callers, at most eight in a call. What it does not find there it looks for under the
+//! back end's lock, in all subsegments of the bucket and of the caller's slot.
+#![tactic(auto)]
+
+mod course;
+mod hint;
+mod pass;
+mod reading;
+
+pub use course::Course;
+pub use hint::{First, Found, search_hint};
+pub use pass::{Pass, read_all};
