@@ -1,2 +1,5 @@
 mod Tokens
 mod Handing
+mod BlockAt
+mod Carving
+mod Placed

@@ -1,15 +1,14 @@
 //! Blocks of the large area.
 ghost use Rattle.std.specs.Prelude.{◌≡◌, ◌*◌, ◌/◌, ◌≤◌, IfOk, IfErr, IfSome, IfNone, Some, None, [], ◌∷◌, option_map};
 ghost use Rattle.std.specs.List.{find};
-ghost use Rattle.heap_model.specs.declared.Act.TheVariants.{GiveLock, NotLive, Sized, Take, Drop};
+ghost use Rattle.heap_model.specs.declared.Act.TheVariants.{GiveLock, NotLive, Sized, Take, Drop, NoFit};
 ghost use Rattle.large_blocks.specs.Table.{is_at};
 ghost use Rattle.paged_calls.specs.Entries.{HasEnded};
 ghost use Rattle.heap_model.specs.declared.Call.TheVariants as calls;
 ghost use Rattle.heap_model.specs.declared.Flags.{Flags as AFlags};
-ghost use Rattle.heap_model.specs.declared.AllocNo.TheVariants.{NoFit};
 ghost use Rattle.call_parts.specs.Calls.{HoldsLarge};
 ghost use Rattle.heap_model.specs.declared.What.TheVariants as whats;
-ghost use Rattle.paged_calls.specs.Parts.{IsAllocating, Places, IsRefused, HasLarge, Measures, Drops};
+ghost use Rattle.paged_calls.specs.Parts.{IsAllocating, Places, IsRefused, Shows, HasPlaced, HasLarge, Measures, Drops};
 
 use crate::entries::{hand_over, prepare_all};
 use call_parts::{State, give_large, give_large_denying, take_large};
@@ -28,8 +27,8 @@ fn place_in(
     requires size { 520193 ≤ n }
     requires table { (c.old.table ≡ heap.now.table) × (c.old.opening ≡ heap.now.opening) }
     requires holds { (flags : AFlags) × (flags.zero ≡ zero) × HoldsLarge c.old (calls.Alloc n flags) large }
-    ensures placed { IfSome result (λ addr. Places c.old c.new addr) }
-    ensures refused { IfNone result (IsRefused whats.Large c.old c.new NoFit) }
+    ensures placed { IfSome result (λ addr. HasPlaced c.old c.new addr n zero) }
+    ensures refused { IfNone result (Shows c.old c.new (NoFit n ∷ [])) }
 {
     c.check();
     let Some(addr) = large.take(n) else {
