@@ -3,3 +3,4 @@ mod Handing
 mod BlockAt
 mod Carving
 mod Placed
+mod Shapes

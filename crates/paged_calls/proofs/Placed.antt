@@ -1,7 +1,7 @@
 -- The entries of a block of the back end, and what they leave.
 use Rattle.std.proofs.Common.{◌≡◌, ◌⊎◌, ℕ, ◌+◌, ◌*◌, ◌-◌, ◌/◌, ◌<◌, ◌≤◌, ◌==◌, Bool, true, false, ◌&&◌, List, [], ◌∷◌, ◌++◌, length, Option, Some, None, refl, sym, ap, ◌∙◌, subst, arith, ltb, inl, inr, eq-eqb}
 use Rattle.std.specs.Prelude.{is_some}
-use Rattle.std.proofs.lemmas.Bool.{cases_Bool, and_parts, lt-ltb, le-ltb}
+use Rattle.std.proofs.lemmas.Bool.{cases_Bool, and_parts, lt-ltb, le-ltb, lt-leb, le-leb}
 use Rattle.heap_model.specs.declared.Act.{Act}
 use Rattle.heap_model.specs.declared.Act.TheVariants as acts
 use Rattle.heap_model.specs.declared.Call.{Call}
@@ -247,3 +247,10 @@ module _ (c : Token) (flags : Flags) (back : Kept) (n : ℕ) (h : HoldsBack c (c
         let t = subst (λ (m : Configuration). StandsForBack c.opening m.state (layer_of back)) (sym (now_more s c (acts.NoFit n))) (h.tells s q) in
         let t' = subst (λ (k : Kept). StandsForBack c.opening (now s refused_token).state (layer_of k)) (sym e) t in
         (spans_used c.opening (now s refused_token).state new t', t')
+
+pub paged_route : (n : ℕ) → 131073 ≤ n → n ≤ 520192 → is_paged (route_of n) ≡ true
+paged_route n l h =
+    let a = lt-leb n 16368 (omega arith) in
+    let b = lt-leb n 131072 (omega arith) in
+    let d = le-leb n 520192 (omega arith) in
+    rw (a, b, d) refl

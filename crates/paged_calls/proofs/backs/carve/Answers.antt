@@ -3,5 +3,5 @@ use Rattle.paged_calls.proofs.backs.carve.Goals as goal
 
 pub returns : goal.returns
 returns c =
-    carved c.args.back.now c.take.new.self c.args.n c.pages_for-pages.result c.back-mark.result c.take.result c.pages_for-pages.ensures.pages c.back-mark.ensures c.take.ensures.place c.take.ensures.none
-    c.take.ensures.stands
+    carved c.args.back.now c.take-first.new.self c.args.n c.pages_for-pages.result c.back-mark.result c.take-first.result c.pages_for-pages.ensures.pages c.back-mark.ensures c.take-first.ensures.place c.take-first.ensures.none
+    c.take-first.ensures.stands c.take-first.ensures.spans c.take-first.ensures.limits c.region-region.ensures.sound
