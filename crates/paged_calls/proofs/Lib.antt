@@ -4,3 +4,4 @@ mod BlockAt
 mod Carving
 mod Placed
 mod Shapes
+mod Placing

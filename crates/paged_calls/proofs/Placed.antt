@@ -21,7 +21,8 @@ use Rattle.heap_model.specs.Search.{request_of}
 use Rattle.heap_model.specs.Legal.{may_follow, after, call_after, leaves_whole, with_span, with_status}
 use Rattle.heap_model.specs.History.{configuration_after, may_all_follow}
 use Rattle.heap_model.specs.Layers.{StandsForBack}
-use Rattle.claim_rule.specs.Entries.{IsSettingOf, entry, may_prepare, are_prepared}
+use Rattle.claim_rule.specs.Entries.{IsSettingOf, setting_of, entry, may_prepare, are_prepared}
+use Rattle.claim_rule.proofs.Advance.{some_setting}
 use Rattle.serial_laws.specs.BackCalls.{block_span, one_more_reserved}
 use Rattle.serial_laws.proofs.Allocate.{empty_parts, gives}
 use Rattle.call_laws.specs.Within.{by_all, IsWithin}
@@ -254,3 +255,7 @@ paged_route n l h =
     let b = lt-leb n 131072 (omega arith) in
     let d = le-leb n 520192 (omega arith) in
     rw (a, b, d) refl
+
+-- the limits that the back end was made for are the heap's
+pub tells_limits : (c : Token) (back : Kept) → Always c (λ s. StandsForBack c.opening (now s c).state (layer_of back)) → back.limits ≡ c.opening.limits
+tells_limits c back t = (t (setting_of c.opening c.roll) (some_setting c.opening c.roll)).limits
