@@ -5,3 +5,7 @@ mod Carving
 mod Placed
 mod Shapes
 mod Placing
+mod LargePlaced
+mod Taken
+mod Found
+mod LargeFound
