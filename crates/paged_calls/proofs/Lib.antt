@@ -9,3 +9,4 @@ mod LargePlaced
 mod Taken
 mod Found
 mod LargeFound
+mod LargeDropped

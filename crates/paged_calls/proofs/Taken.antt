@@ -31,7 +31,7 @@ module _ (c : ℕ) where
   drop a ps = remove_found (is_hand_at c a) ps
 
   module _ (a start granules size : ℕ) (layer : Layer) where
-    abbrev live_one : Place
+    abbrev pub live_one : Place
     live_one = record { start = start; granules = granules; layer = layer; status = Live size }
 
     abbrev pub taken : Place
