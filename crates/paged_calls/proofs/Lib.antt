@@ -10,3 +10,4 @@ mod Taken
 mod Found
 mod LargeFound
 mod LargeDropped
+mod BackDropped

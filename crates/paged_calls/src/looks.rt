@@ -35,6 +35,7 @@ fn give_both(heap: &Heap<State>, c: &mut Caller<State>, vs: Vs, back: Back)
     requires tells_back { Always c.old (λ s. StandsForBack c.old.opening (now s c.old).state (backs.layer_of back)) }
     ensures { HasEnded c.old c.new (GiveLock whats.Back ∷ GiveLock whats.Vs ∷ []) [] }
 {
+    c.check();
     give_back(heap, c, back);
     give_vs(heap, c, vs);
 }
@@ -50,6 +51,7 @@ fn deny(heap: &Heap<State>, c: &mut Caller<State>, vs: Vs, back: Back, addr: u64
     ensures { HasEnded c.old c.new (NotLive addr ∷ GiveLock whats.Back ∷ GiveLock whats.Vs ∷ []) [] }
 {
     c.check();
+    let _region = back.region();
     give_back_denying(heap, c, back, addr);
     give_vs(heap, c, vs);
 }
