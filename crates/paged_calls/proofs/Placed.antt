@@ -226,7 +226,7 @@ module _ (c : Token) (flags : Flags) (back : Kept) (n : ℕ) (h : HoldsBack c (c
           let size : 4096 * pages_of n - (4096 * pages_of n - n) ≡ n = omega arith in
           let area : (now s block_token).state.back.area ≡ with_span (with_segment m.state.back.area first) (block_span first n) = ap (λ (x : State). x.back.area) made in
           let is : (now s d).state.back ≡ part_with m.state.back (block_run first n) =
-              given ∙ (λ i. record { area = area i; places = record { start = 4096 * first; granules = 256 * pages_of n; layer = layers.Back; status = Live (sym size i) } ∷ m.state.back.places }) in
+          given ∙ (λ i. record { area = area i; places = record { start = 4096 * first; granules = 256 * pages_of n; layer = layers.Back; status = Live (sym size i) } ∷ m.state.back.places }) in
           let t = becomes c.opening m.state (now s d).state (h.tells s qc) is in
           let o : d.opening ≡ c.opening = over.added.goes.opening ∙ block_added.goes.opening in
           let t' = subst (λ (x : Opening). StandsForBack x (now s d).state (layer_of new)) (sym o) t in

@@ -47,11 +47,14 @@ fn place_in(
     let _blocks = large.blocks();
     let granules = granules_for(n);
     let layer = Layer::Large;
-    prepare(c, Act::Place {
-        start: addr,
-        granules,
-        layer,
-    });
+    prepare(
+        c,
+        Act::Place {
+            start: addr,
+            granules,
+            layer,
+        },
+    );
     hand_over(heap, c, addr, n, zero);
     give_large(heap, c, large);
     Some(addr)

@@ -57,7 +57,14 @@ fn deny(heap: &Heap<State>, c: &mut Caller<State>, vs: Vs, back: Back, addr: u64
 }
 
 /// Says the size of the block that a run is, and gives both locks back.
-fn tell_size(heap: &Heap<State>, c: &mut Caller<State>, vs: Vs, back: Back, addr: u64, run: Run) -> u64
+fn tell_size(
+    heap: &Heap<State>,
+    c: &mut Caller<State>,
+    vs: Vs,
+    back: Back,
+    addr: u64,
+    run: Run,
+) -> u64
     requires table { (c.old.table ≡ heap.now.table) × (c.old.opening ≡ heap.now.opening) }
     requires both { HasBoth c.old vs back }
     requires not_vs { vs_block_at vs addr ≡ None }
@@ -85,7 +92,14 @@ fn drop_run(heap: &Heap<State>, c: &mut Caller<State>, vs: Vs, mut back: Back, a
     let first = run.first;
     let size = size_of(&run);
     back.give(first);
-    prepare_all(c, &[Act::Take { addr, size }, Act::Drop { addr }, Act::Unspan { first }]);
+    prepare_all(
+        c,
+        &[
+            Act::Take { addr, size },
+            Act::Drop { addr },
+            Act::Unspan { first },
+        ],
+    );
     rest(c);
     give_both(heap, c, vs, back);
 }
@@ -118,13 +132,7 @@ pub fn measure_back(
 
 /// Gives the place of the block of the back end that begins at an address back, with its span, or answers `false` where no live
 /// block has it, as [`measure_back`] does. Both locks are given back.
-pub fn drop_back(
-    heap: &Heap<State>,
-    c: &mut Caller<State>,
-    vs: Vs,
-    back: Back,
-    addr: u64,
-) -> bool
+pub fn drop_back(heap: &Heap<State>, c: &mut Caller<State>, vs: Vs, back: Back, addr: u64) -> bool
     requires table { (c.old.table ≡ heap.now.table) × (c.old.opening ≡ heap.now.opening) }
     requires both { HasBoth c.old vs back }
     requires below { addr / 4096 < 256 * c.old.opening.limits.segments }
