@@ -1,2 +1,13 @@
 mod Tokens
 mod Handing
+mod BlockAt
+mod Carving
+mod Placed
+mod Shapes
+mod Placing
+mod LargePlaced
+mod Taken
+mod Found
+mod LargeFound
+mod LargeDropped
+mod BackDropped

@@ -1,5 +1,5 @@
 -- Blocks of the back end: what is taken for one, and what one has.
-use Rattle.std.specs.Prelude.{◌≡◌, ℕ, ◌*◌, ◌-◌, Option, Some, None}
+use Rattle.std.specs.Prelude.{◌≡◌, ℕ, ◌+◌, ◌*◌, ◌-◌, ◌≤◌, Option, Some, None}
 use Rattle.heap_model.specs.declared.Run.{Run}
 use Rattle.heap_model.specs.Geometry.{pages_of}
 use Rattle.heap_model.specs.Backend.{back_place}
@@ -19,4 +19,5 @@ block_size r = 4096 * r.pages - r.mark.unused
 pub record Carves (old new : Kept) (n : ℕ) (first : Option ℕ) : Type 0 where
   pub place : first ≡ back_place (area_of old) old.limits.segments (pages_of n)
   pub taken : (page : ℕ) → first ≡ Some page → Becomes old new (λ b. part_with b (block_run page n))
+  pub within : (page : ℕ) → first ≡ Some page → page + pages_of n ≤ 256 * old.limits.segments
   pub none : first ≡ None → new ≡ old

@@ -1,5 +1,7 @@
 -- What the parts of a call do in the back end and in the large area.
-use Rattle.std.specs.Prelude.{◌≡◌, ℕ, Bool, true, false, List, [], ◌∷◌, Option, Some, None}
+use Rattle.std.specs.Prelude.{◌≡◌, ℕ, Bool, true, false, not, List, [], ◌∷◌, ◌++◌, Option, Some, None}
+use Rattle.std.specs.List.{list_all}
+use Rattle.heap_model.specs.declared.Act.{Act}
 use Rattle.heap_model.specs.declared.Act.TheVariants as acts
 use Rattle.heap_model.specs.declared.AllocNo.{AllocNo}
 use Rattle.heap_model.specs.declared.AllocNo.TheVariants as alloc_nos
@@ -9,12 +11,15 @@ use Rattle.heap_model.specs.declared.Flags.{Flags}
 use Rattle.heap_model.specs.declared.Reply.TheVariants as replies
 use Rattle.heap_model.specs.declared.What.{What}
 use Rattle.heap_model.specs.declared.What.TheVariants as whats
-use Rattle.heap_model.specs.Legal.{leaves_whole}
-use Rattle.heap_model.specs.Shape.{Replied}
+use Rattle.heap_model.specs.declared.Layer.{Layer}
+use Rattle.heap_model.specs.State.{InHand, address}
+use Rattle.heap_model.specs.Legal.{leaves_whole, is_begin}
+use Rattle.heap_model.specs.Shape.{Replied, shape_of, zeroing}
 use Rattle.heap_gate.specs.Token.{Token, Always, now}
 use Rattle.backend_fit.specs.Kept.{Kept}
 use Rattle.vs_layer.specs.Kept.{VsKept}
 use Rattle.large_blocks.specs.Table.{LargeTable}
+use Rattle.paged_calls.specs.Entries.{HasEnded}
 use Rattle.call_parts.specs.Calls.{IsServing, Makes, Brings, MeetsBusy, HoldsBoth, HoldsLarge}
 
 ---- The call
@@ -36,6 +41,23 @@ pub record HasBoth (c : Token) (vs : VsKept) (back : Kept) : Type 0 where
 -- .. or that of the large area.
 abbrev pub HasLarge : Token → LargeTable → Type 0
 HasLarge c large = (call : Call) × HoldsLarge c call large
+
+---- What stands under a lock
+
+-- The caller has given its locks back, behind acts that show this shape.
+pub record Shows (old new : Token) (shape : List Act) : Type 0 where
+  pub rest : List Act
+  pub ended : HasEnded old new rest []
+  pub no_begin : list_all (λ act. not (is_begin act)) rest ≡ true
+  pub shape_is : shape_of rest ≡ shape
+
+-- .. those of a new block
+pub record HasPlaced (old new : Token) (addr n : ℕ) (zero : Bool) : Type 0 where
+  pub start : ℕ
+  pub granules : ℕ
+  pub layer : Layer
+  pub at : address (record { start = start; granules = granules; layer = layer; status = InHand 0 }) ≡ addr
+  pub shown : Shows old new (acts.Place start granules layer ∷ (zeroing zero addr n ++ acts.Give addr n ∷ []))
 
 ---- What the parts do
 

@@ -17,7 +17,9 @@ pub(crate) fn carve(back: &mut Back, n: u64) -> Option<u32>
 {
     let pages = pages_for(n);
     let mark = Mark::back((PAGE_BYTES as u32 * pages - n as u32) as u16);
-    back.take(pages, mark)
+    let first = back.take(pages, mark);
+    let _region = back.region();
+    first
 }
 
 /// The pages of a block of `n` bytes.

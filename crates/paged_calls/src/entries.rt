@@ -38,13 +38,7 @@ fn zero_words(heap: &Heap<State>, c: &mut Caller<State>, word: u64, words: u64, 
 }
 
 /// Gives the new block in hand, whose words are 0 then if that is asked.
-pub(crate) fn hand_over(
-    heap: &Heap<State>,
-    c: &mut Caller<State>,
-    addr: u64,
-    n: u64,
-    zero: bool,
-)
+pub(crate) fn hand_over(heap: &Heap<State>, c: &mut Caller<State>, addr: u64, n: u64, zero: bool)
     requires table { (c.old.table ≡ heap.now.table) × (c.old.opening ≡ heap.now.opening) }
     requires room { length c.old.prepared < 16 }
     requires there { addr / 8 + words_of n ≤ data_count c.old.opening.limits }

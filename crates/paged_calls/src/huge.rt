@@ -1,21 +1,28 @@
 //! Blocks of the large area.
 ghost use Rattle.std.specs.Prelude.{◌≡◌, ◌*◌, ◌/◌, ◌≤◌, IfOk, IfErr, IfSome, IfNone, Some, None, [], ◌∷◌, option_map};
 ghost use Rattle.std.specs.List.{find};
-ghost use Rattle.heap_model.specs.declared.Act.TheVariants.{GiveLock, NotLive, Sized, Take, Drop};
+ghost use Rattle.heap_model.specs.declared.Act.TheVariants.{GiveLock, NotLive, Sized, Take, Drop, NoFit};
+ghost use Rattle.heap_model.specs.Geometry.{pages_of};
 ghost use Rattle.large_blocks.specs.Table.{is_at};
 ghost use Rattle.paged_calls.specs.Entries.{HasEnded};
 ghost use Rattle.heap_model.specs.declared.Call.TheVariants as calls;
 ghost use Rattle.heap_model.specs.declared.Flags.{Flags as AFlags};
-ghost use Rattle.heap_model.specs.declared.AllocNo.TheVariants.{NoFit};
 ghost use Rattle.call_parts.specs.Calls.{HoldsLarge};
 ghost use Rattle.heap_model.specs.declared.What.TheVariants as whats;
-ghost use Rattle.paged_calls.specs.Parts.{IsAllocating, Places, IsRefused, HasLarge, Measures, Drops};
+ghost use Rattle.paged_calls.specs.Parts.{IsAllocating, Places, IsRefused, Shows, HasPlaced, HasLarge, Measures, Drops};
 
 use crate::entries::{hand_over, prepare_all};
 use call_parts::{State, give_large, give_large_denying, take_large};
 use heap_gate::{Caller, Heap, prepare, rest};
 use heap_model::{Act, AllocNo, Layer, PAGE_BYTES, PAGE_GRANULES};
 use large_blocks::Large;
+
+/// The granules of the pages of a block of `n` bytes.
+fn granules_for(n: u64) -> u64
+    ensures { result ≡ 256 * pages_of n }
+{
+    u64::from(PAGE_GRANULES) * n.div_ceil(PAGE_BYTES)
+}
 
 /// Places a block under the lock of the large area, which is given back.
 fn place_in(
@@ -28,8 +35,8 @@ fn place_in(
     requires size { 520193 ≤ n }
     requires table { (c.old.table ≡ heap.now.table) × (c.old.opening ≡ heap.now.opening) }
     requires holds { (flags : AFlags) × (flags.zero ≡ zero) × HoldsLarge c.old (calls.Alloc n flags) large }
-    ensures placed { IfSome result (λ addr. Places c.old c.new addr) }
-    ensures refused { IfNone result (IsRefused whats.Large c.old c.new NoFit) }
+    ensures placed { IfSome result (λ addr. HasPlaced c.old c.new addr n zero) }
+    ensures refused { IfNone result (Shows c.old c.new (NoFit n ∷ [])) }
 {
     c.check();
     let Some(addr) = large.take(n) else {
@@ -37,13 +44,17 @@ fn place_in(
         give_large(heap, c, large);
         return None;
     };
-    let granules = u64::from(PAGE_GRANULES) * n.div_ceil(PAGE_BYTES);
+    let _blocks = large.blocks();
+    let granules = granules_for(n);
     let layer = Layer::Large;
-    prepare(c, Act::Place {
-        start: addr,
-        granules,
-        layer,
-    });
+    prepare(
+        c,
+        Act::Place {
+            start: addr,
+            granules,
+            layer,
+        },
+    );
     hand_over(heap, c, addr, n, zero);
     give_large(heap, c, large);
     Some(addr)
@@ -78,10 +89,11 @@ fn deny(heap: &Heap<State>, c: &mut Caller<State>, large: Large, addr: u64)
     requires table { (c.old.table ≡ heap.now.table) × (c.old.opening ≡ heap.now.opening) }
     requires large { HasLarge c.old large }
     requires behind { 256 * c.old.opening.limits.segments ≤ addr / 4096 }
-    requires none { find (is_at addr) large.blocks ≡ None }
+    requires none { option_map (λ b. b.size) (find (is_at addr) large.blocks) ≡ None }
     ensures { HasEnded c.old c.new (NotLive addr ∷ GiveLock whats.Large ∷ []) [] }
 {
     c.check();
+    let _blocks = large.blocks();
     give_large_denying(heap, c, large, addr);
 }
 

@@ -35,6 +35,7 @@ fn give_both(heap: &Heap<State>, c: &mut Caller<State>, vs: Vs, back: Back)
     requires tells_back { Always c.old (λ s. StandsForBack c.old.opening (now s c.old).state (backs.layer_of back)) }
     ensures { HasEnded c.old c.new (GiveLock whats.Back ∷ GiveLock whats.Vs ∷ []) [] }
 {
+    c.check();
     give_back(heap, c, back);
     give_vs(heap, c, vs);
 }
@@ -50,12 +51,20 @@ fn deny(heap: &Heap<State>, c: &mut Caller<State>, vs: Vs, back: Back, addr: u64
     ensures { HasEnded c.old c.new (NotLive addr ∷ GiveLock whats.Back ∷ GiveLock whats.Vs ∷ []) [] }
 {
     c.check();
+    let _region = back.region();
     give_back_denying(heap, c, back, addr);
     give_vs(heap, c, vs);
 }
 
 /// Says the size of the block that a run is, and gives both locks back.
-fn tell_size(heap: &Heap<State>, c: &mut Caller<State>, vs: Vs, back: Back, addr: u64, run: Run) -> u64
+fn tell_size(
+    heap: &Heap<State>,
+    c: &mut Caller<State>,
+    vs: Vs,
+    back: Back,
+    addr: u64,
+    run: Run,
+) -> u64
     requires table { (c.old.table ≡ heap.now.table) × (c.old.opening ≡ heap.now.opening) }
     requires both { HasBoth c.old vs back }
     requires not_vs { vs_block_at vs addr ≡ None }
@@ -83,7 +92,14 @@ fn drop_run(heap: &Heap<State>, c: &mut Caller<State>, vs: Vs, mut back: Back, a
     let first = run.first;
     let size = size_of(&run);
     back.give(first);
-    prepare_all(c, &[Act::Take { addr, size }, Act::Drop { addr }, Act::Unspan { first }]);
+    prepare_all(
+        c,
+        &[
+            Act::Take { addr, size },
+            Act::Drop { addr },
+            Act::Unspan { first },
+        ],
+    );
     rest(c);
     give_both(heap, c, vs, back);
 }
@@ -116,13 +132,7 @@ pub fn measure_back(
 
 /// Gives the place of the block of the back end that begins at an address back, with its span, or answers `false` where no live
 /// block has it, as [`measure_back`] does. Both locks are given back.
-pub fn drop_back(
-    heap: &Heap<State>,
-    c: &mut Caller<State>,
-    vs: Vs,
-    back: Back,
-    addr: u64,
-) -> bool
+pub fn drop_back(heap: &Heap<State>, c: &mut Caller<State>, vs: Vs, back: Back, addr: u64) -> bool
     requires table { (c.old.table ≡ heap.now.table) × (c.old.opening ≡ heap.now.opening) }
     requires both { HasBoth c.old vs back }
     requires below { addr / 4096 < 256 * c.old.opening.limits.segments }

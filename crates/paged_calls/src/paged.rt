@@ -1,15 +1,15 @@
 //! Placing a block in the back end.
-ghost use Rattle.std.specs.Prelude.{◌≡◌, ◌*◌, ◌≤◌, [], true, IfOk, IfErr, IfSome, IfNone};
+ghost use Rattle.std.specs.Prelude.{◌≡◌, ◌*◌, ◌≤◌, [], ◌∷◌, true, IfOk, IfErr, IfSome, IfNone};
+ghost use Rattle.heap_model.specs.declared.Act.TheVariants.{NoFit};
 ghost use Rattle.heap_model.specs.declared.Call.TheVariants as calls;
 ghost use Rattle.heap_model.specs.declared.Flags.{Flags as AFlags};
-ghost use Rattle.heap_model.specs.declared.AllocNo.TheVariants.{NoFit};
 ghost use Rattle.heap_model.specs.declared.What.TheVariants as whats;
 ghost use Rattle.claim_rule.specs.Entries.{are_prepared};
 ghost use Rattle.call_laws.specs.Within.{by_all};
 ghost use Rattle.heap_gate.specs.Token.{Always, now};
 ghost use Rattle.call_parts.specs.Calls.{HoldsBack};
 ghost use Rattle.paged_calls.specs.Entries.{with_all, block_acts};
-ghost use Rattle.paged_calls.specs.Parts.{IsAllocating, Places, IsRefused};
+ghost use Rattle.paged_calls.specs.Parts.{IsAllocating, Places, IsRefused, Shows, HasPlaced};
 
 use crate::backs::{carve, pages_for};
 use crate::entries::{hand_over, prepare_all};
@@ -56,8 +56,8 @@ fn place_in(
     requires size { (131073 ≤ n) × (n ≤ 520192) }
     requires table { (c.old.table ≡ heap.now.table) × (c.old.opening ≡ heap.now.opening) }
     requires holds { (flags : AFlags) × (flags.zero ≡ zero) × HoldsBack c.old (calls.Alloc n flags) back }
-    ensures placed { IfSome result (λ addr. Places c.old c.new addr) }
-    ensures refused { IfNone result (IsRefused whats.Back c.old c.new NoFit) }
+    ensures placed { IfSome result (λ addr. HasPlaced c.old c.new addr n zero) }
+    ensures refused { IfNone result (Shows c.old c.new (NoFit n ∷ [])) }
 {
     c.check();
     let reserved = back.region().reserved();

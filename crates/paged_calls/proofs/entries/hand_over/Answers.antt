@@ -31,7 +31,7 @@ returns c = λ p h.
     let new : HasNew a (new_place a.number p.layer p.start p.granules) addr n = subst (λ (x : Place). HasNew a x addr n) same h in
     let z = zeroed a b (c.args.addr / 8) c.div_ceil.result c.args.zero h.whole c.zero_words.ensures in
     let e : c.rest.new.c ≡ rested (with_prepared b (acts.Give (address (new_place a.number p.layer p.start p.granules)) n)) =
-        c.rest.ensures ∙ ap rested (c.prepare.ensures ∙ ap (λ (x : ℕ). with_prepared b (acts.Give x n)) (sym new.at)) in
+    c.rest.ensures ∙ ap rested (c.prepare.ensures ∙ ap (λ (x : ℕ). with_prepared b (acts.Give x n)) (sym new.at)) in
     subst (λ (t : Token). HasHandedOver a t p n c.args.zero) (sym e)
     (subst (λ (x : Place). HasHandedOver a (rested (with_prepared b (acts.Give (address (new_place a.number p.layer p.start p.granules)) n))) x n c.args.zero) (sym same)
     (handed_over a b p.layer p.start p.granules addr n (c.args.addr / 8) c.div_ceil.result c.args.zero new z c.check.ensures.stands refl (omega (arith, c.div_ceil.ensures))))
