@@ -34,9 +34,9 @@ pub fn drop_front(heap: &Heap<State>, c: &mut Caller<State>, tag: Tag, addr: u64
     ensures { Drops c.old c.new addr result }
 {
     c.check();
-    if take_live(heap, c, tag, addr).is_none() {
+    let Some(_size) = take_live(heap, c, tag, addr) else {
         return false;
-    }
+    };
     c.check();
     clear(heap, c, tag, addr);
     c.check();
