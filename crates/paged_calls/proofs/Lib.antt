@@ -1,2 +1,0 @@
-mod Tokens
-mod Handing

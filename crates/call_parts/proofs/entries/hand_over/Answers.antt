@@ -4,9 +4,9 @@ use Rattle.heap_model.specs.State.{Place, address}
 use Rattle.claim_rule.specs.Entries.{may_prepare}
 use Rattle.heap_gate.specs.Token.{Token, Always, now}
 use Rattle.heap_gate.specs.Calls.{with_prepared, rested, HasRested}
-use Rattle.paged_calls.specs.Entries.{HasNew, HasHandedOver}
-use Rattle.paged_calls.proofs.Handing.{new_place, as_new, zeroed, give_may, give_rests, handed_over}
-use Rattle.paged_calls.proofs.entries.hand_over.Goals as goal
+use Rattle.call_parts.specs.Entries.{HasNew, HasHandedOver}
+use Rattle.call_parts.proofs.Handing.{new_place, as_new, zeroed, give_may, give_rests, handed_over}
+use Rattle.call_parts.proofs.entries.hand_over.Goals as goal
 
 pub prepare-requires-clause-may : goal.prepare-requires-clause-may
 prepare-requires-clause-may c =
@@ -31,7 +31,7 @@ returns c = λ p h.
     let new : HasNew a (new_place a.number p.layer p.start p.granules) addr n = subst (λ (x : Place). HasNew a x addr n) same h in
     let z = zeroed a b (c.args.addr / 8) c.div_ceil.result c.args.zero h.whole c.zero_words.ensures in
     let e : c.rest.new.c ≡ rested (with_prepared b (acts.Give (address (new_place a.number p.layer p.start p.granules)) n)) =
-        c.rest.ensures ∙ ap rested (c.prepare.ensures ∙ ap (λ (x : ℕ). with_prepared b (acts.Give x n)) (sym new.at)) in
+    c.rest.ensures ∙ ap rested (c.prepare.ensures ∙ ap (λ (x : ℕ). with_prepared b (acts.Give x n)) (sym new.at)) in
     subst (λ (t : Token). HasHandedOver a t p n c.args.zero) (sym e)
     (subst (λ (x : Place). HasHandedOver a (rested (with_prepared b (acts.Give (address (new_place a.number p.layer p.start p.granules)) n))) x n c.args.zero) (sym same)
     (handed_over a b p.layer p.start p.granules addr n (c.args.addr / 8) c.div_ceil.result c.args.zero new z c.check.ensures.stands refl (omega (arith, c.div_ceil.ensures))))

@@ -26,8 +26,8 @@ use Rattle.heap_gate.specs.Token.{Token, Always, now, IsStanding}
 use Rattle.heap_gate.specs.Calls.{with_prepared, rested, HasRested, Runs, Stands, stance}
 use Rattle.data_words.specs.Clears.{clears, IsCleared}
 use Rattle.call_parts.proofs.Joining.{setting_before}
-use Rattle.paged_calls.specs.Entries.{holding, HasNew, Zeroes, HasAdded, IsGiven, HasHandedOver}
-use Rattle.paged_calls.proofs.Tokens.{now_more, prepares, added_none, added_runs, added_one, added_rested, added_then}
+use Rattle.call_parts.specs.Entries.{holding, HasNew, Zeroes, HasAdded, IsGiven, HasHandedOver}
+use Rattle.call_parts.proofs.Tokens.{now_more, prepares, added_none, added_runs, added_one, added_rested, added_then}
 
 ---- Zeroing
 
