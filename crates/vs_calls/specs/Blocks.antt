@@ -1,11 +1,16 @@
--- Blocks of the variable-size layer, as a call finds them.
-use Rattle.std.specs.Prelude.{◌≡◌, ℕ, true, Option, option_and_then}
+-- Blocks of the variable-size layer, as a call finds and places them.
+use Rattle.std.specs.Prelude.{◌≡◌, ℕ, ◌+◌, ◌*◌, true, Option, Some, option_and_then}
+use Rattle.heap_model.specs.declared.Act.TheVariants as acts
 use Rattle.heap_model.specs.declared.Call.{Call}
+use Rattle.heap_model.specs.declared.Layer.TheVariants as layers
 use Rattle.heap_model.specs.declared.What.TheVariants as whats
 use Rattle.heap_model.specs.Legal.{leaves_whole}
+use Rattle.heap_model.specs.Runs.{Run}
 use Rattle.heap_model.specs.State.{live_size}
+use Rattle.heap_gate.specs.Calls.{with_prepared}
 use Rattle.heap_gate.specs.Token.{Token, Always, now}
-use Rattle.vs_layer.specs.Kept.{VsKept, block_at}
+use Rattle.vs_layer.specs.Kept.{VsKept, block_at, place_for}
+use Rattle.vs_layer.specs.Standing.{Becomes, with_block}
 use Rattle.call_parts.specs.Calls.{HoldsVs}
 
 -- The caller has, in its call, the state of VS, and each span of VS has a place.
@@ -17,3 +22,12 @@ pub record HasVs (c : Token) (vs : VsKept) : Type 0 where
 -- the size of the live block at an address, if one is there
 abbrev pub size_at : VsKept → ℕ → Option ℕ
 size_at vs addr = option_and_then (λ p. live_size p.status) (block_at vs addr)
+
+-- A block of n bytes has its place where the definitions have it, at the front of the smallest gap that fits, and is in hand: the place is prepared, and
+-- once the block is given the layer tells it.
+pub record HasHeld (old new : Token) (vs later : VsKept) (n addr : ℕ) : Type 0 where
+  pub run : Run
+  pub place : place_for vs n ≡ Some run
+  pub at : addr ≡ 16 * run.first + 16
+  pub prepared : new ≡ with_prepared old (acts.Place (16 * run.first) run.count layers.Vs)
+  pub becomes : Becomes vs later (λ v. with_block v run n) (λ xs. xs)

@@ -1,8 +1,10 @@
 //! Parts of calls that the variable-size layer serves.
 //!
-//! Each part begins with the lock of the layer held, and gives it back.
+//! Each works under the lock of the layer: a block that is there is measured, or a new one placed in a gap and taken in hand.
 #![tactic(auto)]
 
 mod blocks;
+mod placing;
 
 pub use blocks::measure_vs;
+pub use placing::hold_in_gap;
