@@ -1,23 +1,35 @@
 -- Blocks of the variable-size layer, as a call finds and places them.
-use Rattle.std.specs.Prelude.{◌≡◌, ℕ, ◌+◌, ◌*◌, true, Option, Some, option_and_then}
+use Rattle.std.specs.Prelude.{◌≡◌, ℕ, ◌+◌, ◌*◌, true, [], ◌∷◌, Option, Some, option_and_then}
 use Rattle.heap_model.specs.declared.Act.TheVariants as acts
 use Rattle.heap_model.specs.declared.Call.{Call}
 use Rattle.heap_model.specs.declared.Layer.TheVariants as layers
 use Rattle.heap_model.specs.declared.What.TheVariants as whats
 use Rattle.heap_model.specs.Legal.{leaves_whole}
 use Rattle.heap_model.specs.Runs.{Run}
-use Rattle.heap_model.specs.State.{live_size}
-use Rattle.heap_gate.specs.Calls.{with_prepared}
-use Rattle.heap_gate.specs.Token.{Token, Always, now}
+use Rattle.heap_model.specs.State.{State, live_size}
+use Rattle.heap_model.specs.Layers.{StandsForVs}
+use Rattle.heap_gate.specs.Calls.{with_prepared, rested}
+use Rattle.heap_gate.specs.Token.{Token, Always, now, is_out}
 use Rattle.vs_layer.specs.Kept.{VsKept, block_at, place_for}
-use Rattle.vs_layer.specs.Standing.{Becomes, with_block}
+use Rattle.vs_layer.specs.Standing.{layer_of, Becomes, with_block, without_block}
 use Rattle.call_parts.specs.Calls.{HoldsVs}
+use Rattle.call_parts.specs.Entries.{with_all}
 
 -- The caller has, in its call, the state of VS, and each span of VS has a place.
 pub record HasVs (c : Token) (vs : VsKept) : Type 0 where
   pub call : Call
   pub holds : HoldsVs c call vs
   pub used : Always c (λ s. leaves_whole (now s c).state whats.Vs ≡ true)
+
+-- The caller is in a call under the lock of VS, has its state, and has nothing in hand.
+pub record IsUnderVs (c : Token) (vs : VsKept) : Type 0 where
+  pub call : Call
+  pub call_is : c.call ≡ Some call
+  pub inside : c.inside ≡ true
+  pub whole : c.whole ≡ true
+  pub free : c.free ≡ true
+  pub held : is_out whats.Vs c.out ≡ true
+  pub tells : Always c (λ s. StandsForVs c.opening (now s c).state (layer_of vs))
 
 -- the size of the live block at an address, if one is there
 abbrev pub size_at : VsKept → ℕ → Option ℕ
@@ -31,3 +43,13 @@ pub record HasHeld (old new : Token) (vs later : VsKept) (n addr : ℕ) : Type 0
   pub at : addr ≡ 16 * run.first + 16
   pub prepared : new ≡ with_prepared old (acts.Place (16 * run.first) run.count layers.Vs)
   pub becomes : Becomes vs later (λ v. with_block v run n) (λ xs. xs)
+
+-- the block at an address is gone, and the back end is as it was
+pub record IsGone (addr : ℕ) (st later : State) : Type 0 where
+  pub vs : later.vs ≡ without_block st.vs addr
+  pub back : later.back ≡ st.back
+
+-- The block at an address, which had this size, is taken and dropped, by entries that are prepared, and nothing is in hand.
+pub record HasTakenOut (old new : Token) (addr size : ℕ) : Type 0 where
+  pub prepared : new ≡ rested (with_all old (acts.Take addr size ∷ acts.Drop addr ∷ []))
+  pub gone : Always new (λ s. IsGone addr (now s old).state (now s new).state)

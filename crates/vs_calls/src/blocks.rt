@@ -1,12 +1,12 @@
 //! Blocks of the variable-size layer that are there.
-ghost use Rattle.std.specs.Prelude.{◌≡◌, ◌∷◌, [], Some, is_some, true};
+ghost use Rattle.std.specs.Prelude.{◌≡◌, ◌+◌, ◌≤◌, ◌∷◌, [], Some, is_some, true, length};
 ghost use Rattle.heap_model.specs.declared.Act.TheVariants.{Sized};
 ghost use Rattle.heap_model.specs.declared.Call.{Call as ACall};
 ghost use Rattle.call_parts.specs.Calls.{Makes};
-ghost use Rattle.vs_calls.specs.Blocks.{HasVs, size_at};
+ghost use Rattle.vs_calls.specs.Blocks.{HasVs, IsUnderVs, HasTakenOut, size_at};
 
-use call_parts::{State, give_vs};
-use heap_gate::{Caller, Heap, prepare};
+use call_parts::{State, give_vs, prepare_all};
+use heap_gate::{Caller, Heap, prepare, rest};
 use heap_model::Act;
 use vs_layer::Vs;
 
@@ -22,5 +22,21 @@ pub fn measure_vs(heap: &Heap<State>, c: &mut Caller<State>, vs: Vs, addr: u64) 
     let size = vs.find(addr).unwrap();
     prepare(c, Act::Sized { addr, size });
     give_vs(heap, c, vs);
+    size
+}
+
+/// Takes the block at an address, which is there, and drops its place. Both are prepared under the lock of the layer, whose state does
+/// not know it yet, and the size of the block is answered.
+pub fn take_out(c: &mut Caller<State>, vs: &Vs, addr: u64) -> u64
+    requires vs { IsUnderVs c.old vs.now }
+    requires there { is_some (size_at vs.now addr) ≡ true }
+    requires room { length c.old.prepared + 2 ≤ 16 }
+    ensures size { size_at vs.now addr ≡ Some result }
+    ensures out { HasTakenOut c.old c.new addr result }
+{
+    c.check();
+    let size = vs.find(addr).unwrap();
+    prepare_all(c, &[Act::Take { addr, size }, Act::Drop { addr }]);
+    rest(c);
     size
 }

@@ -6,5 +6,5 @@
 mod blocks;
 mod placing;
 
-pub use blocks::measure_vs;
+pub use blocks::{measure_vs, take_out};
 pub use placing::hold_in_gap;
