@@ -26,8 +26,8 @@ use Rattle.call_laws.specs.Within.{by_all}
 use Rattle.call_laws.proofs.Within.{updated_here}
 use Rattle.heap_gate.specs.Token.{Token, Always, now, IsStanding, is_out}
 use Rattle.heap_gate.specs.Calls.{rested, HasRested}
-use Rattle.paged_calls.specs.Entries.{with_all}
-use Rattle.paged_calls.proofs.Tokens.{now_all, prepares, one_prepared}
+use Rattle.call_parts.specs.Entries.{with_all}
+use Rattle.call_parts.proofs.Tokens.{now_all, prepares, one_prepared}
 use Rattle.paged_calls.proofs.Taken.{take, drop, taken, live_one, in_hand_after, dropped, none_left}
 use Rattle.paged_calls.proofs.Found.{there, may_take}
 use Rattle.std.specs.Prelude.{option_map}
@@ -40,8 +40,8 @@ use Rattle.claim_rule.specs.Places.{vs_slot, back_slot}
 use Rattle.claim_rule.proofs.Advance.{some_setting}
 use Rattle.claim_rule.proofs.Lists.{setting_less}
 use Rattle.heap_gate.specs.Calls.{Runs, HasGiven}
-use Rattle.paged_calls.specs.Entries.{HasEnded}
-use Rattle.paged_calls.proofs.Tokens.{ended_given, ended_then}
+use Rattle.call_parts.specs.Entries.{HasEnded}
+use Rattle.call_parts.proofs.Tokens.{ended_given, ended_then}
 use Rattle.heap_model.specs.Backend.{in_span}
 use Rattle.heap_model.specs.Ranges.{vs_spans, is_of_kind}
 use Rattle.heap_model.specs.Layers.{StandsForVs, StandsForBack, sorted_vs}

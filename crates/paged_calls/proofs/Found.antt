@@ -13,7 +13,7 @@ use Rattle.heap_model.specs.Legal.{may, may_follow, meets_demand, may_touch, has
 use Rattle.heap_model.specs.Agreement.{is_locked, is_locked_at}
 use Rattle.claim_rule.specs.Entries.{entry, is_of_lfh, may_prepare}
 use Rattle.serial_laws.proofs.Found.{find_front}
-use Rattle.paged_calls.proofs.Tokens.{prepares}
+use Rattle.call_parts.proofs.Tokens.{prepares}
 
 -- no live place has an address that no place has
 pub none_live : (a : ℕ) (ps : List Place) → find (has_address a) ps ≡ None → has_live ps a ≡ false

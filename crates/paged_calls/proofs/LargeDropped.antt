@@ -29,8 +29,8 @@ use Rattle.large_blocks.proofs.Standing.{place_at_address}
 use Rattle.heap_gate.specs.Token.{Token, Always, now, IsStanding, is_out}
 use Rattle.heap_gate.specs.Calls.{rested, HasRested}
 use Rattle.call_parts.specs.Calls.{HoldsLarge}
-use Rattle.paged_calls.specs.Entries.{with_all}
-use Rattle.paged_calls.proofs.Tokens.{now_all, prepares, one_prepared}
+use Rattle.call_parts.specs.Entries.{with_all}
+use Rattle.call_parts.proofs.Tokens.{now_all, prepares, one_prepared}
 use Rattle.paged_calls.proofs.Taken.{take, drop, taken, live_one, in_hand_after, dropped, none_left}
 use Rattle.paged_calls.proofs.Found.{there, may_take}
 use Rattle.paged_calls.proofs.LargeFound.{exclusive_found}

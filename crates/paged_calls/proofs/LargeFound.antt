@@ -18,7 +18,7 @@ use Rattle.large_blocks.proofs.Standing.{place_at_address, same_size}
 use Rattle.heap_gate.specs.Token.{Token, Always, now, IsStanding, is_out}
 use Rattle.heap_gate.specs.Calls.{with_prepared}
 use Rattle.call_parts.specs.Calls.{HoldsLarge}
-use Rattle.paged_calls.proofs.Tokens.{now_more}
+use Rattle.call_parts.proofs.Tokens.{now_more}
 use Rattle.paged_calls.proofs.Found.{none_sized, may_size}
 
 -- the block of a size

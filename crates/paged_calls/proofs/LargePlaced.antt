@@ -35,10 +35,10 @@ use Rattle.heap_gate.specs.Calls.{with_prepared, HasGiven}
 use Rattle.call_parts.specs.Calls.{HoldsLarge}
 use Rattle.call_parts.proofs.Joining.{setting_before}
 use Rattle.call_parts.proofs.Serving.{within}
-use Rattle.paged_calls.specs.Entries.{holding, HasNew, HasAdded, HasHandedOver}
+use Rattle.call_parts.specs.Entries.{holding, HasNew, HasAdded, HasHandedOver}
 use Rattle.paged_calls.specs.Parts.{HasPlaced}
-use Rattle.paged_calls.proofs.Tokens.{now_more, prepares, added_one, added_then}
-use Rattle.paged_calls.proofs.Handing.{new_place}
+use Rattle.call_parts.proofs.Tokens.{now_more, prepares, added_one, added_then}
+use Rattle.call_parts.proofs.Handing.{new_place}
 use Rattle.paged_calls.proofs.Shapes.{given_behind, placed_shows}
 
 pub huge_route : (n : ℕ) → 520193 ≤ n → is_huge (route_of n) ≡ true

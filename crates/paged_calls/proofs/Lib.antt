@@ -1,5 +1,3 @@
-mod Tokens
-mod Handing
 mod BlockAt
 mod Carving
 mod Placed

@@ -43,9 +43,9 @@ use Rattle.call_parts.specs.Calls.{HoldsBack}
 use Rattle.call_parts.proofs.Joining.{setting_before}
 use Rattle.call_parts.proofs.Serving.{within, none_begins}
 use Rattle.paged_calls.specs.Blocks.{block_run}
-use Rattle.paged_calls.specs.Entries.{with_all, block_acts, holding, HasNew, HasAdded, HasHandedOver}
-use Rattle.paged_calls.proofs.Tokens.{now_more, now_all, prepares, one_prepared, length_all, added_all, setting_before_all}
-use Rattle.paged_calls.proofs.Handing.{new_place}
+use Rattle.call_parts.specs.Entries.{with_all, block_acts, holding, HasNew, HasAdded, HasHandedOver}
+use Rattle.call_parts.proofs.Tokens.{now_more, now_all, prepares, one_prepared, length_all, added_all, setting_before_all}
+use Rattle.call_parts.proofs.Handing.{new_place}
 
 ---- The entries
 

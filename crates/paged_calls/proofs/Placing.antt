@@ -21,9 +21,9 @@ use Rattle.heap_gate.specs.Token.{Token, Always, now, IsStanding}
 use Rattle.heap_gate.specs.Calls.{HasGiven}
 use Rattle.call_parts.specs.Calls.{HoldsBack}
 use Rattle.paged_calls.specs.Blocks.{block_run}
-use Rattle.paged_calls.specs.Entries.{block_acts, HasNew, HasAdded, HasHandedOver}
+use Rattle.call_parts.specs.Entries.{block_acts, HasNew, HasAdded, HasHandedOver}
 use Rattle.paged_calls.specs.Parts.{HasPlaced}
-use Rattle.paged_calls.proofs.Tokens.{added_then}
+use Rattle.call_parts.proofs.Tokens.{added_then}
 use Rattle.paged_calls.proofs.Placed.{block_token, block_added, block_out, block_place, block_new, block_no_begin, block_tells}
 use Rattle.paged_calls.proofs.Shapes.{given_behind, placed_shows, block_shown}
 

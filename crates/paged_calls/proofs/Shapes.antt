@@ -25,9 +25,9 @@ use Rattle.heap_gate.specs.Calls.{HasTaken, HasMissed, HasGiven, with_prepared}
 use Rattle.call_parts.specs.Calls.{IsServing, Makes}
 use Rattle.call_parts.proofs.Joining.{goes_does}
 use Rattle.call_parts.proofs.Serving.{none_begins, none_begins-append, shape-append, new_since}
-use Rattle.paged_calls.specs.Entries.{block_acts, HasAdded, HasEnded}
+use Rattle.call_parts.specs.Entries.{block_acts, HasAdded, HasEnded}
 use Rattle.paged_calls.specs.Parts.{IsAllocating, Shows, HasPlaced, Places, IsRefused}
-use Rattle.paged_calls.proofs.Tokens.{added_one, added_then, added_taken, ended_given, ended_missed, ended_then, makes}
+use Rattle.call_parts.proofs.Tokens.{added_one, added_then, added_taken, ended_given, ended_missed, ended_then, makes}
 
 ---- Shapes
 

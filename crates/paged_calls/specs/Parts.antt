@@ -19,7 +19,7 @@ use Rattle.heap_gate.specs.Token.{Token, Always, now}
 use Rattle.backend_fit.specs.Kept.{Kept}
 use Rattle.vs_layer.specs.Kept.{VsKept}
 use Rattle.large_blocks.specs.Table.{LargeTable}
-use Rattle.paged_calls.specs.Entries.{HasEnded}
+use Rattle.call_parts.specs.Entries.{HasEnded}
 use Rattle.call_parts.specs.Calls.{IsServing, Makes, Brings, MeetsBusy, HoldsBoth, HoldsLarge}
 
 ---- The call

@@ -4,15 +4,14 @@ ghost use Rattle.std.specs.List.{find};
 ghost use Rattle.heap_model.specs.declared.Act.TheVariants.{GiveLock, NotLive, Sized, Take, Drop, NoFit};
 ghost use Rattle.heap_model.specs.Geometry.{pages_of};
 ghost use Rattle.large_blocks.specs.Table.{is_at};
-ghost use Rattle.paged_calls.specs.Entries.{HasEnded};
+ghost use Rattle.call_parts.specs.Entries.{HasEnded};
 ghost use Rattle.heap_model.specs.declared.Call.TheVariants as calls;
 ghost use Rattle.heap_model.specs.declared.Flags.{Flags as AFlags};
 ghost use Rattle.call_parts.specs.Calls.{HoldsLarge};
 ghost use Rattle.heap_model.specs.declared.What.TheVariants as whats;
 ghost use Rattle.paged_calls.specs.Parts.{IsAllocating, Places, IsRefused, Shows, HasPlaced, HasLarge, Measures, Drops};
 
-use crate::entries::{hand_over, prepare_all};
-use call_parts::{State, give_large, give_large_denying, take_large};
+use call_parts::{State, give_large, give_large_denying, hand_over, prepare_all, take_large};
 use heap_gate::{Caller, Heap, prepare, rest};
 use heap_model::{Act, AllocNo, Layer, PAGE_BYTES, PAGE_GRANULES};
 use large_blocks::Large;

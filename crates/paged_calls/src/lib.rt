@@ -5,7 +5,6 @@
 #![tactic(auto)]
 
 mod backs;
-mod entries;
 mod huge;
 mod looks;
 mod paged;

@@ -14,13 +14,12 @@ ghost use Rattle.claim_rule.specs.Places.{vs_slot, back_slot};
 ghost use Rattle.backend_fit.specs.Kept.{is_block_at, spans_of};
 ghost use Rattle.backend_fit.specs.Kept as backs;
 ghost use Rattle.paged_calls.specs.Blocks.{block_size};
-ghost use Rattle.paged_calls.specs.Entries.{HasEnded};
+ghost use Rattle.call_parts.specs.Entries.{HasEnded};
 ghost use Rattle.paged_calls.specs.Parts.{HasBoth, Measures, Drops};
 
 use crate::backs::{block_at, size_of};
-use crate::entries::prepare_all;
 use backend_fit::Back;
-use call_parts::{State, give_back, give_back_denying, give_vs};
+use call_parts::{State, give_back, give_back_denying, give_vs, prepare_all};
 use heap_gate::{Caller, Heap, prepare, rest};
 use heap_model::{Act, Run};
 use vs_layer::Vs;

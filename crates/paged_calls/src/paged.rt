@@ -8,13 +8,12 @@ ghost use Rattle.claim_rule.specs.Entries.{are_prepared};
 ghost use Rattle.call_laws.specs.Within.{by_all};
 ghost use Rattle.heap_gate.specs.Token.{Always, now};
 ghost use Rattle.call_parts.specs.Calls.{HoldsBack};
-ghost use Rattle.paged_calls.specs.Entries.{with_all, block_acts};
+ghost use Rattle.call_parts.specs.Entries.{with_all, block_acts};
 ghost use Rattle.paged_calls.specs.Parts.{IsAllocating, Places, IsRefused, Shows, HasPlaced};
 
 use crate::backs::{carve, pages_for};
-use crate::entries::{hand_over, prepare_all};
 use backend_fit::Back;
-use call_parts::{State, give_back, take_back};
+use call_parts::{State, give_back, hand_over, prepare_all, take_back};
 use heap_gate::{Caller, Heap, prepare};
 use heap_model::{Act, AllocNo, Kind, Layer, PAGE_BYTES, PAGE_GRANULES, SEGMENT_PAGES};
 

@@ -1,40 +1,55 @@
 -- Blocks of the variable-size layer, as a call finds and places them.
-use Rattle.std.specs.Prelude.{◌≡◌, ℕ, false, [], ◌∷◌, Option, option_and_then}
+use Rattle.std.specs.Prelude.{◌≡◌, ℕ, ◌+◌, ◌*◌, true, [], ◌∷◌, Option, Some, option_and_then}
 use Rattle.heap_model.specs.declared.Act.TheVariants as acts
-use Rattle.heap_model.specs.declared.AllocNo.{AllocNo}
-use Rattle.heap_model.specs.declared.AllocNo.TheVariants as alloc_nos
-use Rattle.heap_model.specs.declared.Busy.{Busy}
 use Rattle.heap_model.specs.declared.Call.{Call}
-use Rattle.heap_model.specs.declared.Call.TheVariants as calls
-use Rattle.heap_model.specs.declared.Flags.{Flags}
-use Rattle.heap_model.specs.declared.Reply.TheVariants as replies
+use Rattle.heap_model.specs.declared.Layer.TheVariants as layers
 use Rattle.heap_model.specs.declared.What.TheVariants as whats
-use Rattle.heap_model.specs.Shape.{Replied}
-use Rattle.heap_model.specs.Buckets.{bucket_of}
-use Rattle.heap_model.specs.State.{live_size}
-use Rattle.heap_model.specs.Stay.{for_some}
-use Rattle.heap_model.specs.Legal.{goes_to_lfh}
-use Rattle.vs_layer.specs.Kept.{VsKept, block_at}
-use Rattle.heap_gate.specs.Token.{Token, Always, now}
-use Rattle.call_parts.specs.Calls.{Brings, Makes, MeetsBusy}
+use Rattle.heap_model.specs.Legal.{leaves_whole}
+use Rattle.heap_model.specs.Runs.{Run}
+use Rattle.heap_model.specs.State.{State, live_size}
+use Rattle.heap_model.specs.Layers.{StandsForVs}
+use Rattle.heap_gate.specs.Calls.{with_prepared, rested}
+use Rattle.heap_gate.specs.Token.{Token, Always, now, is_out}
+use Rattle.vs_layer.specs.Kept.{VsKept, block_at, place_for}
+use Rattle.vs_layer.specs.Standing.{layer_of, Becomes, with_block, without_block}
+use Rattle.call_parts.specs.Calls.{HoldsVs}
+use Rattle.call_parts.specs.Entries.{with_all}
 
--- sizes in the bucket of n, where n has one, do not go to the front end
-abbrev pub IsForVs : Token → ℕ → Type 0
-IsForVs c n = Always c (λ s. for_some (bucket_of n) (goes_to_lfh (now s c).state.vs) ≡ false)
+-- The caller has, in its call, the state of VS, and each span of VS has a place.
+pub record HasVs (c : Token) (vs : VsKept) : Type 0 where
+  pub call : Call
+  pub holds : HoldsVs c call vs
+  pub used : Always c (λ s. leaves_whole (now s c).state whats.Vs ≡ true)
+
+-- The caller is in a call under the lock of VS, has its state, and has nothing in hand.
+pub record IsUnderVs (c : Token) (vs : VsKept) : Type 0 where
+  pub call : Call
+  pub call_is : c.call ≡ Some call
+  pub inside : c.inside ≡ true
+  pub whole : c.whole ≡ true
+  pub free : c.free ≡ true
+  pub held : is_out whats.Vs c.out ≡ true
+  pub tells : Always c (λ s. StandsForVs c.opening (now s c).state (layer_of vs))
 
 -- the size of the live block at an address, if one is there
 abbrev pub size_at : VsKept → ℕ → Option ℕ
 size_at vs addr = option_and_then (λ p. live_size p.status) (block_at vs addr)
 
--- why a block is not placed: no range fits, or another holds the back end's lock
-abbrev pub IsRefused : Token → Token → ℕ → Flags → AllocNo → Type 0
-IsRefused old new n flags alloc_nos.NoFit = Brings old new (calls.Alloc n flags) (Replied replies.NoFit)
-IsRefused old new n flags (alloc_nos.Busy b) = MeetsBusy old new (calls.Alloc n flags) b whats.Back
+-- A block of n bytes has its place where the definitions have it, at the front of the smallest gap that fits, and is in hand: the place is prepared, and
+-- once the block is given the layer tells it.
+pub record HasHeld (old new : Token) (vs later : VsKept) (n addr : ℕ) : Type 0 where
+  pub run : Run
+  pub place : place_for vs n ≡ Some run
+  pub at : addr ≡ 16 * run.first + 16
+  pub prepared : new ≡ with_prepared old (acts.Place (16 * run.first) run.count layers.Vs)
+  pub becomes : Becomes vs later (λ v. with_block v run n) (λ xs. xs)
 
--- the block at an address is taken and goes, or another holds the back end's lock, to which its subsegment would go
-abbrev pub IsBusyBack : Token → Token → Call → Busy → Type 0
-IsBusyBack old new call b = MeetsBusy old new call b whats.Back
+-- the block at an address is gone, and the back end is as it was
+pub record IsGone (addr : ℕ) (st later : State) : Type 0 where
+  pub vs : later.vs ≡ without_block st.vs addr
+  pub back : later.back ≡ st.back
 
--- the block at an address is taken and goes
-abbrev pub HasFreed : Token → Token → Call → ℕ → Type 0
-HasFreed old new call addr = (size : ℕ) × Makes old new call (acts.Take addr size ∷ acts.Drop addr ∷ [])
+-- The block at an address, which had this size, is taken and dropped, by entries that are prepared, and nothing is in hand.
+pub record HasTakenOut (old new : Token) (addr size : ℕ) : Type 0 where
+  pub prepared : new ≡ rested (with_all old (acts.Take addr size ∷ acts.Drop addr ∷ []))
+  pub gone : Always new (λ s. IsGone addr (now s old).state (now s new).state)

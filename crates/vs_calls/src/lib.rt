@@ -1,10 +1,10 @@
-//! Parts of calls that the variable-size layer serves: a block is placed in a gap or in a new subsegment, found, or dropped.
+//! Parts of calls that the variable-size layer serves.
 //!
-//! Each part begins with the lock of the layer held. It takes the back end's lock only where a subsegment is made or goes, and gives both back.
+//! Each works under the lock of the layer: a block that is there is measured, or a new one placed in a gap and taken in hand.
 #![tactic(auto)]
 
 mod blocks;
 mod placing;
 
-pub use blocks::{drop_vs, measure_vs};
-pub use placing::place_in_vs;
+pub use blocks::{measure_vs, take_out};
+pub use placing::hold_in_gap;

@@ -1,98 +1,46 @@
-//! A new block of the variable-size layer.
-ghost use Rattle.std.specs.Prelude.{◌≡◌, ◌≤◌, IfOk, IfErr};
-ghost use Rattle.heap_model.specs.declared.Call.TheVariants.{Alloc};
-ghost use Rattle.heap_model.specs.declared.Reply.TheVariants as replies;
-ghost use Rattle.heap_model.specs.declared.What.TheVariants as whats;
-ghost use Rattle.heap_model.specs.Shape.{Replied};
-ghost use Rattle.call_parts.specs.Calls.{HoldsVs, Brings};
-ghost use Rattle.vs_calls.specs.Blocks.{IsForVs, IsRefused};
+//! A new block of the variable-size layer, in hand.
+ghost use Rattle.std.specs.Prelude.{◌≡◌, ◌*◌, ◌<◌, ◌≤◌, Some, is_some, true, length};
+ghost use Rattle.heap_model.specs.declared.Act.TheVariants.{Place as APlace};
+ghost use Rattle.heap_model.specs.declared.Layer.TheVariants as layers;
+ghost use Rattle.heap_model.specs.Layers.{StandsForVs};
+ghost use Rattle.heap_model.specs.Runs.{Run};
+ghost use Rattle.heap_model.specs.State.{Place};
+ghost use Rattle.claim_rule.specs.Entries.{may_prepare};
+ghost use Rattle.heap_gate.specs.Token.{Always, now};
+ghost use Rattle.vs_layer.specs.Kept.{block_at, place_for};
+ghost use Rattle.vs_layer.specs.Standing.{layer_of};
+ghost use Rattle.vs_calls.specs.Blocks.{HasHeld};
 
-use backend_fit::Back;
-use call_parts::{State, give_back, give_vs, take_back};
-use data_words::clear;
-use heap_gate::{Caller, Heap, prepare, rest};
-use heap_model::{Act, AllocNo, Flags, Kind, Layer, Mark, SEGMENT_PAGES};
+use call_parts::State;
+use heap_gate::{Caller, prepare};
+use heap_model::{Act, GRANULE_BYTES, Layer};
 use vs_layer::Vs;
 
-/// Places a block of `n` bytes, at most 131,072, at the front of the smallest gap that holds it, or, where none does, in a subsegment that the back
-/// end gives. It is refused where there is neither, or where another has the lock of the back end.
-pub fn place_in_vs(
-    heap: &Heap<State>,
-    c: &mut Caller<State>,
-    vs: Vs,
-    n: u64,
-    flags: Flags,
-) -> Result<u64, AllocNo>
-    requires table { (c.old.table ≡ heap.now.table) × (c.old.opening ≡ heap.now.opening) }
-    requires size { n ≤ 131072 }
-    requires holds { HoldsVs c.old (Alloc n flags) vs }
-    requires vs { IsForVs c.old n }
-    ensures placed { IfOk result (λ a. Brings c.old c.new (Alloc n flags) (Replied (replies.Address a))) }
-    ensures refused { IfErr result (λ no. IsRefused c.old c.new n flags no) }
+/// The granules of the place of the block at an address, its header included.
+fn granules_at(vs: &Vs, addr: u64) -> u64
+    requires { (p : Place) × (block_at vs.now addr ≡ Some p) }
+    ensures { (p : Place) → block_at vs.now addr ≡ Some p → result ≡ p.granules }
 {
-    let mut vs = vs;
-    if vs.fit(n) {
-        let addr = hold_in_gap(c, &mut vs, n);
-        finish(heap, c, addr, n, flags);
-        give_vs(heap, c, vs);
-        return Ok(addr);
-    }
-    let mut back = match take_back(heap, c) {
-        Ok(back) => back,
-        Err(busy) => {
-            give_vs(heap, c, vs);
-            return Err(AllocNo::Busy(busy));
-        }
-    };
-    let Some(addr) = hold_in_span(c, &mut vs, &mut back, n) else {
-        prepare(c, Act::NoFit { size: n });
-        give_back(heap, c, back);
-        give_vs(heap, c, vs);
-        return Err(AllocNo::NoFit);
-    };
-    finish(heap, c, addr, n, flags);
-    give_back(heap, c, back);
-    give_vs(heap, c, vs);
-    Ok(addr)
+    let start = addr - GRANULE_BYTES;
+    u64::from(vs.heads().chunk_at(start).unwrap().units)
 }
 
-// Places a block in a gap, and has it in hand.
-fn hold_in_gap(c: &mut Caller<State>, vs: &mut Vs, n: u64) -> u64 {
+/// Places a block of `n` bytes at the front of the smallest gap that holds it, and has it in hand. The place is prepared under the lock
+/// of the layer. It is the part that a request of the layer itself shares with one that the front end could not serve.
+pub fn hold_in_gap(c: &mut Caller<State>, vs: &mut Vs, n: u64) -> u64
+    requires size { n ≤ 131072 }
+    requires fits { is_some (place_for vs.old n) ≡ true }
+    requires room { length c.old.prepared < 16 }
+    requires tells { Always c.old (λ s. StandsForVs c.old.opening (now s c.old).state (layer_of vs.old)) }
+    requires may { (run : Run) → place_for vs.old n ≡ Some run → Always c.old (λ s. may_prepare s (now s c.old) c.old.number (APlace (16 * run.first) run.count layers.Vs) ≡ true) }
+    ensures { HasHeld c.old c.new vs.old vs.new n result }
+{
     let addr = vs.place(n);
-    let start = addr - 16;
-    let granules = u64::from(vs.heads().chunk_at(start).unwrap().units);
+    let granules = granules_at(vs, addr);
     prepare(c, Act::Place {
-        start,
+        start: addr - GRANULE_BYTES,
         granules,
         layer: Layer::Vs,
     });
     addr
-}
-
-// Makes a subsegment, places a block in it, and has it in hand; there may be no range for one.
-fn hold_in_span(c: &mut Caller<State>, vs: &mut Vs, back: &mut Back, n: u64) -> Option<u64> {
-    let pages = Vs::span_pages(n);
-    let reserved = back.region().reserved();
-    let first = back.take(pages, Mark::VS)?;
-    if first / SEGMENT_PAGES >= reserved {
-        prepare(c, Act::Reserve { segment: reserved });
-    }
-    prepare(c, Act::Span {
-        first,
-        pages,
-        kind: Kind::Vs,
-        bucket: 0,
-        slot: 0,
-    });
-    vs.add_span(first, pages);
-    Some(hold_in_gap(c, vs, n))
-}
-
-// Zeroes a block in hand, if that is asked, and gives it its size.
-fn finish(heap: &Heap<State>, c: &mut Caller<State>, addr: u64, n: u64, flags: Flags) {
-    if flags.zero {
-        clear(heap, c, addr / 8, n.div_ceil(8));
-    }
-    prepare(c, Act::Give { addr, size: n });
-    rest(c);
 }

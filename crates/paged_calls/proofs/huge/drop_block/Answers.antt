@@ -9,7 +9,7 @@ use Rattle.call_laws.specs.Within.{by_all}
 use Rattle.large_blocks.specs.Table.{layer_of, is_at}
 use Rattle.heap_gate.specs.Token.{Token, Always, now}
 use Rattle.heap_gate.specs.Calls.{rested, HasRested}
-use Rattle.paged_calls.specs.Entries.{with_all}
+use Rattle.call_parts.specs.Entries.{with_all}
 use Rattle.paged_calls.proofs.LargeFound.{sized_block}
 use Rattle.paged_calls.proofs.LargeDropped.{drop_may, drop_rests, drop_tells}
 use Rattle.paged_calls.proofs.huge.drop_block.Goals as goal

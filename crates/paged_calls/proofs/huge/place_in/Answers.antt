@@ -16,7 +16,7 @@ use Rattle.large_blocks.specs.Sound.{AreLaid}
 use Rattle.heap_gate.specs.Token.{Token, Always, now}
 use Rattle.heap_gate.specs.Calls.{HasGiven, with_prepared}
 use Rattle.paged_calls.proofs.Carving.{if_some, if_none}
-use Rattle.paged_calls.proofs.Tokens.{added_one}
+use Rattle.call_parts.proofs.Tokens.{added_one}
 use Rattle.paged_calls.proofs.Shapes.{given_behind}
 use Rattle.paged_calls.proofs.LargePlaced.{huge_route, words_there, large_limits, large_new, large_token, place_may, large_here, large_added, large_out, large_inside, large_whole, large_tells, large_placed, large_refused, large_refused_tells}
 use Rattle.paged_calls.proofs.huge.place_in.Goals as goal

@@ -3,7 +3,7 @@ use Rattle.heap_model.specs.declared.Act.TheVariants as acts
 use Rattle.heap_model.specs.declared.What.TheVariants as whats
 use Rattle.claim_rule.specs.Places.{vs_slot, back_slot}
 use Rattle.paged_calls.specs.Blocks.{block_size}
-use Rattle.paged_calls.proofs.Tokens.{makes}
+use Rattle.call_parts.proofs.Tokens.{makes}
 use Rattle.paged_calls.proofs.looks.drop_back.Goals as goal
 
 pub returns-in-Some : goal.returns-in-Some

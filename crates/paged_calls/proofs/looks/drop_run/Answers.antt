@@ -15,8 +15,8 @@ use Rattle.backend_fit.proofs.Told.{spans_used}
 use Rattle.heap_gate.specs.Token.{Token, Always, now, is_out}
 use Rattle.heap_gate.specs.Calls.{with_prepared, rested, HasRested}
 use Rattle.paged_calls.specs.Blocks.{block_size}
-use Rattle.paged_calls.specs.Entries.{with_all, HasEnded}
-use Rattle.paged_calls.proofs.Tokens.{now_more, added_one, added_all, added_rested, added_then, ended_then}
+use Rattle.call_parts.specs.Entries.{with_all, HasEnded}
+use Rattle.call_parts.proofs.Tokens.{now_more, added_one, added_all, added_rested, added_then, ended_then}
 use Rattle.paged_calls.proofs.BackDropped.{back_none, back_tells, vs_held, given_vs, both_given, back_span, first_page, back_sized_may, back_drop_may, back_dropped, back_drop_rests, back_drop_tells, back_drop_vs, back_drop_used}
 use Rattle.paged_calls.proofs.looks.drop_run.Goals as goal
 

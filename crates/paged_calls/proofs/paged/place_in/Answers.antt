@@ -16,9 +16,9 @@ use Rattle.heap_gate.specs.Calls.{HasGiven, with_prepared}
 use Rattle.claim_rule.specs.Places.{data_count}
 use Rattle.heap_model.specs.declared.Limits.{Limits}
 use Rattle.heap_model.specs.Geometry.{words_of}
-use Rattle.paged_calls.specs.Entries.{with_all, block_acts, HasNew, HasHandedOver}
+use Rattle.call_parts.specs.Entries.{with_all, block_acts, HasNew, HasHandedOver}
 use Rattle.paged_calls.specs.Parts.{Shows, HasPlaced}
-use Rattle.paged_calls.proofs.Tokens.{added_one, added_then}
+use Rattle.call_parts.proofs.Tokens.{added_one, added_then}
 use Rattle.paged_calls.proofs.Placed.{paged_route, block_may, block_token, block_added, tells_limits, refused_may, refused_tells}
 use Rattle.paged_calls.proofs.Placing.{the_place, new_here, all_added, out_then, inside_then, whole_then, owes_then, tells_then, placed_then}
 use Rattle.paged_calls.proofs.Shapes.{given_behind}

@@ -15,7 +15,8 @@ use Rattle.heap_model.specs.declared.What.{What}
 use Rattle.heap_model.specs.declared.What.TheVariants as whats
 use Rattle.heap_model.specs.Geometry.{words_of}
 use Rattle.heap_model.specs.Shape.{zeros}
-use Rattle.heap_model.specs.State.{Setting, State, BackPart, Place, Live, InHand, hands, hand_at, in_hand, places_of, holds, is_layer, address, has_address, is_hand_at, is_in_hand_of, is_entered, change_found}
+use Rattle.heap_model.specs.Ranges.{vs_spans}
+use Rattle.heap_model.specs.State.{Setting, State, BackPart, VsPart, Place, Live, InHand, hands, hand_at, in_hand, places_of, holds, is_layer, address, has_address, is_hand_at, is_in_hand_of, is_entered, change_found}
 use Rattle.heap_model.specs.Stay.{for_some}
 use Rattle.heap_model.specs.CallState.{Configuration, Nothing, caller_view}
 use Rattle.heap_model.specs.Legal.{may_follow, after, meets_demand, may_touch, suits, with_status, with_places, layer_of}
@@ -26,8 +27,8 @@ use Rattle.heap_gate.specs.Token.{Token, Always, now, IsStanding}
 use Rattle.heap_gate.specs.Calls.{with_prepared, rested, HasRested, Runs, Stands, stance}
 use Rattle.data_words.specs.Clears.{clears, IsCleared}
 use Rattle.call_parts.proofs.Joining.{setting_before}
-use Rattle.paged_calls.specs.Entries.{holding, HasNew, Zeroes, HasAdded, IsGiven, HasHandedOver}
-use Rattle.paged_calls.proofs.Tokens.{now_more, prepares, added_none, added_runs, added_one, added_rested, added_then}
+use Rattle.call_parts.specs.Entries.{holding, HasNew, Zeroes, HasAdded, IsGiven, HasHandedOver}
+use Rattle.call_parts.proofs.Tokens.{now_more, prepares, added_none, added_runs, added_one, added_rested, added_then}
 
 ---- Zeroing
 
@@ -37,16 +38,18 @@ pub record IsKept (n : ℕ) (m k : Configuration) : Type 0 where
   pub hand : (layer : Layer) → in_hand n (places_of k.state layer) ≡ in_hand n (places_of m.state layer)
   pub back : holds m.state.gate n whats.Back ≡ true → k.state.back ≡ m.state.back
   pub large : holds m.state.gate n whats.Large ≡ true → k.state.large ≡ m.state.large
+  pub vs : holds m.state.gate n whats.Vs ≡ true → k.state.vs ≡ m.state.vs
+  pub spans : holds m.state.gate n whats.Vs ≡ true → vs_spans k.state.back.area ≡ vs_spans m.state.back.area
 
 kept_self : (n : ℕ) (m : Configuration) → IsKept n m m
-kept_self n m = record { locks = λ w. refl; hand = λ l. refl; back = λ h. refl; large = λ h. refl }
+kept_self n m = record { locks = λ w. refl; hand = λ l. refl; back = λ h. refl; large = λ h. refl; vs = λ h. refl; spans = λ h. refl }
 
 -- stores change the words alone
 stored : (s : Setting) (n : ℕ) (m k : Configuration) (word count : ℕ) → AgreesFor n k (configuration_after s m (clears n word count)) → IsKept n m k
-stored s n m k word zero a = record { locks = a.locks; hand = a.hands; back = a.back; large = a.large }
+stored s n m k word zero a = record { locks = a.locks; hand = a.hands; back = a.back; large = a.large; vs = a.vs; spans = a.spans }
 stored s n m k word (suc count) a =
     let r = stored s n (after s m (entry n (acts.Store word 0))) k (word + 1) count a in
-    record { locks = r.locks; hand = hand r; back = r.back; large = r.large }
+    record { locks = r.locks; hand = hand r; back = r.back; large = r.large; vs = r.vs; spans = r.spans }
   where
     hand : IsKept n (after s m (entry n (acts.Store word 0))) k → (layer : Layer) → in_hand n (places_of k.state layer) ≡ in_hand n (places_of m.state layer)
     hand r layers.Lfh = r.hand layers.Lfh
@@ -146,6 +149,17 @@ large_given st c layers.Lfh start granules n ps e p = absurd (let bad : ⊥ = cc
 large_given st c layers.Vs start granules n ps e p = absurd (let bad : ⊥ = cc in bad)
 large_given st c layers.Back start granules n ps e p = absurd (let bad : ⊥ = cc in bad)
 
+vs_given : (st : State) (c : ℕ) (l : Layer) (start granules n : ℕ) (ps : List Place) → l ≡ layers.Vs → st.vs.places ≡ new_place c l start granules ∷ ps
+    → (with_places st (Some l) (give_in c (address (new_place c l start granules)) n)).vs ≡ record { places = with_status (Live n) (new_place c l start granules) ∷ ps; active = st.vs.active; served = st.vs.served }
+vs_given st c layers.Vs start granules n ps e p =
+    ap (λ (qs : List Place). record { places = qs; active = st.vs.active; served = st.vs.served }) (ap (give_in c (start + 16) n) p ∙ given_front c layers.Vs start granules n ps)
+vs_given st c layers.Lfh start granules n ps e p = absurd (let bad : ⊥ = cc in bad)
+vs_given st c layers.Back start granules n ps e p = absurd (let bad : ⊥ = cc in bad)
+vs_given st c layers.Large start granules n ps e p = absurd (let bad : ⊥ = cc in bad)
+
+area_given : (st : State) (l : Layer) (f : List Place → List Place) → (with_places st (Some l) f).back.area ≡ st.back.area
+area_given st l f = refl
+
 -- the layers that are open stay so where the locks are as they were
 same_touch : (m k : Configuration) (c : ℕ) (l : Layer) → ((w : What) → holds k.state.gate c w ≡ holds m.state.gate c w) → may_touch (caller_view k c) l ≡ may_touch (caller_view m c) l
 same_touch m k c layers.Lfh e = refl
@@ -155,6 +169,9 @@ same_touch m k c layers.Large e = e whats.Large
 
 touch_back : (m : Configuration) (c : ℕ) (l : Layer) → l ≡ layers.Back → may_touch (caller_view m c) l ≡ true → holds m.state.gate c whats.Back ≡ true
 touch_back m c l e t = subst (λ (x : Layer). may_touch (caller_view m c) x ≡ true) e t
+
+touch_vs : (m : Configuration) (c : ℕ) (l : Layer) → l ≡ layers.Vs → may_touch (caller_view m c) l ≡ true → holds m.state.gate c whats.Vs ≡ true
+touch_vs m c l e t = subst (λ (x : Layer). may_touch (caller_view m c) x ≡ true) e t
 
 touch_large : (m : Configuration) (c : ℕ) (l : Layer) → l ≡ layers.Large → may_touch (caller_view m c) l ≡ true → holds m.state.gate c whats.Large ≡ true
 touch_large m c l e t = subst (λ (x : Layer). may_touch (caller_view m c) x ≡ true) e t
@@ -187,6 +204,8 @@ module _ (s : Setting) (m : Configuration) (c : ℕ) (l : Layer) (start granules
   given_then = record {
     back = λ ps e h. ap (λ (st : State). st.back) state_is ∙ back_given m.state c l start granules n ps e h;
     large = λ ps e h. ap (λ (st : State). st.large) state_is ∙ large_given m.state c l start granules n ps e h;
+    vs = λ ps e h. ap (λ (st : State). st.vs) state_is ∙ vs_given m.state c l start granules n ps e h;
+    spans = λ e. ap (λ (st : State). vs_spans st.back.area) state_is ∙ ap vs_spans (area_given m.state l (give_in c (address p) n));
   }
 
 ---- The token
@@ -243,6 +262,11 @@ module _ (a b : Token) (l : Layer) (start granules addr n word count : ℕ) (zer
         large = λ ps e f.
             let same : (now s b).state.large ≡ m.state.large = kept.large (touch_large m a.number l e touch) in
             ap (λ (k : Configuration). k.state.large) (after_is s) ∙ y.large ps e (same ∙ f);
+        vs = λ ps e f.
+            let same : (now s b).state.vs ≡ m.state.vs = kept.vs (touch_vs m a.number l e touch) in
+            ap (λ (k : Configuration). k.state.vs) (after_is s)
+            ∙ (y.vs ps e (ap (λ (x : VsPart). x.places) same ∙ f) ∙ ap (λ (x : VsPart). record { places = with_status (Live n) tp ∷ ps; active = x.active; served = x.served }) same);
+        spans = λ e. ap (λ (k : Configuration). vs_spans k.state.back.area) (after_is s) ∙ (y.spans e ∙ kept.spans (touch_vs m a.number l e touch));
       }
 
   pub handed_over : word ≡ addr / 8 → count ≡ words_of n → HasHandedOver a (rested given_token) tp n zero_it

@@ -6,15 +6,15 @@ ghost use Rattle.claim_rule.specs.Places.{data_count};
 ghost use Rattle.call_laws.specs.Within.{by_all};
 ghost use Rattle.heap_gate.specs.Token.{Always, now};
 ghost use Rattle.heap_model.specs.State.{Place};
-ghost use Rattle.paged_calls.specs.Entries.{with_all, HasNew, Zeroes, HasHandedOver};
+ghost use Rattle.call_parts.specs.Entries.{with_all, HasNew, Zeroes, HasHandedOver};
 
-use call_parts::State;
+use crate::state::State;
 use data_words::clear;
 use heap_gate::{Caller, Heap, prepare, rest};
 use heap_model::Act;
 
 /// Prepares entries one behind another.
-pub(crate) fn prepare_all(c: &mut Caller<State>, acts: &[Act])
+pub fn prepare_all(c: &mut Caller<State>, acts: &[Act])
     requires room { length c.old.prepared + length acts.now ≤ 16 }
     requires may { Always c.old (λ s. are_prepared s (now s c.old) c.old.number (by_all c.old.number acts.now) ≡ true) }
     ensures { c.new ≡ with_all c.old acts.now }
@@ -38,7 +38,7 @@ fn zero_words(heap: &Heap<State>, c: &mut Caller<State>, word: u64, words: u64, 
 }
 
 /// Gives the new block in hand, whose words are 0 then if that is asked.
-pub(crate) fn hand_over(heap: &Heap<State>, c: &mut Caller<State>, addr: u64, n: u64, zero: bool)
+pub fn hand_over(heap: &Heap<State>, c: &mut Caller<State>, addr: u64, n: u64, zero: bool)
     requires table { (c.old.table ≡ heap.now.table) × (c.old.opening ≡ heap.now.opening) }
     requires room { length c.old.prepared < 16 }
     requires there { addr / 8 + words_of n ≤ data_count c.old.opening.limits }

@@ -4,9 +4,9 @@ use Rattle.heap_model.specs.State.{Place, address}
 use Rattle.claim_rule.specs.Entries.{may_prepare}
 use Rattle.heap_gate.specs.Token.{Token, Always, now}
 use Rattle.heap_gate.specs.Calls.{with_prepared, rested, HasRested}
-use Rattle.paged_calls.specs.Entries.{HasNew, HasHandedOver}
-use Rattle.paged_calls.proofs.Handing.{new_place, as_new, zeroed, give_may, give_rests, handed_over}
-use Rattle.paged_calls.proofs.entries.hand_over.Goals as goal
+use Rattle.call_parts.specs.Entries.{HasNew, HasHandedOver}
+use Rattle.call_parts.proofs.Handing.{new_place, as_new, zeroed, give_may, give_rests, handed_over}
+use Rattle.call_parts.proofs.entries.hand_over.Goals as goal
 
 pub prepare-requires-clause-may : goal.prepare-requires-clause-may
 prepare-requires-clause-may c =

@@ -25,7 +25,7 @@ use Rattle.call_laws.specs.Within.{by_all}
 use Rattle.call_parts.specs.Calls.{IsServing, Makes}
 use Rattle.call_parts.proofs.Joining.{goes_none, goes_does, goes_prepared, goes_rested, goes_then}
 use Rattle.call_parts.proofs.Serving.{none_begins}
-use Rattle.paged_calls.specs.Entries.{with_all, IsSteady, HasAdded, HasEnded}
+use Rattle.call_parts.specs.Entries.{with_all, IsSteady, HasAdded, HasEnded}
 
 ---- What is prepared
 

@@ -8,9 +8,9 @@ use Rattle.claim_rule.specs.Entries.{may_prepare, are_prepared, IsSettingOf}
 use Rattle.heap_gate.specs.Token.{Token, Always, now}
 use Rattle.heap_gate.specs.Calls.{with_prepared}
 use Rattle.call_laws.specs.Within.{by_all}
-use Rattle.paged_calls.specs.Entries.{with_all}
-use Rattle.paged_calls.proofs.Tokens.{next_prepared, all_then_one, length_all, listed, setting_before_all}
-use Rattle.paged_calls.proofs.entries.prepare_all.Goals as goal
+use Rattle.call_parts.specs.Entries.{with_all}
+use Rattle.call_parts.proofs.Tokens.{next_prepared, all_then_one, length_all, listed, setting_before_all}
+use Rattle.call_parts.proofs.entries.prepare_all.Goals as goal
 
 -- what stands where a list has no entry
 abbrev none : Act

@@ -6,6 +6,7 @@ use Rattle.heap_model.specs.declared.Layer.{Layer}
 use Rattle.heap_model.specs.declared.Layer.TheVariants as layers
 use Rattle.heap_model.specs.Shape.{zeroing}
 use Rattle.heap_model.specs.State.{Place, Live, InHand, in_hand, places_of, is_layer, address}
+use Rattle.heap_model.specs.Ranges.{vs_spans}
 use Rattle.heap_model.specs.CallState.{Configuration, caller_view}
 use Rattle.heap_model.specs.Legal.{may_touch, suits, with_status}
 use Rattle.heap_gate.specs.Token.{Token, Always, now}
@@ -75,6 +76,8 @@ pub record HasEnded (old new : Token) (rest : List Act) (out : List ℕ) : Type 
 pub record IsGiven (p : Place) (n : ℕ) (m k : Configuration) : Type 0 where
   pub back : (ps : List Place) → p.layer ≡ layers.Back → m.state.back.places ≡ p ∷ ps → k.state.back ≡ record { area = m.state.back.area; places = with_status (Live n) p ∷ ps }
   pub large : (ps : List Place) → p.layer ≡ layers.Large → m.state.large ≡ p ∷ ps → k.state.large ≡ with_status (Live n) p ∷ ps
+  pub vs : (ps : List Place) → p.layer ≡ layers.Vs → m.state.vs.places ≡ p ∷ ps → k.state.vs ≡ record { places = with_status (Live n) p ∷ ps; active = m.state.vs.active; served = m.state.vs.served }
+  pub spans : p.layer ≡ layers.Vs → vs_spans k.state.back.area ≡ vs_spans m.state.back.area
 
 -- The block in hand was zeroed, where that was asked, and given.
 pub record HasHandedOver (old new : Token) (p : Place) (n : ℕ) (zero : Bool) : Type 0 where
