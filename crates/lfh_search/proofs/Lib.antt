@@ -10,3 +10,4 @@ pub mod Subsegment
 pub mod HintSearch
 pub mod Passing
 pub mod Passed
+pub mod Spent

@@ -1,17 +1,16 @@
 -- What readings leave to a pass.
-use Rattle.std.proofs.Common.{◌≡◌, ℕ, ◌+◌, ◌*◌, ◌<◌, true, false, not, ◌&&◌, ◌||◌, List, [], ◌∷◌, ◌++◌, length, Option, Some, None, refl, sym, ap, ◌∙◌, subst, arith, eq-eqb}
+use Rattle.std.proofs.Common.{◌≡◌, ℕ, ◌+◌, ◌*◌, ◌<◌, true, false, List, [], ◌∷◌, ◌++◌, length, Option, Some, None, refl, sym, ap, ◌∙◌, subst, arith, eq-eqb}
 use Rattle.std.proofs.lemmas.Bool.{false≢true}
 use Rattle.heap_model.specs.declared.Act.{Act}
 use Rattle.heap_model.specs.declared.Act.TheVariants as acts
 use Rattle.heap_model.specs.declared.Opening.{Opening}
 use Rattle.heap_model.specs.declared.What.TheVariants as whats
-use Rattle.heap_model.specs.State.{Setting, Span, holds}
-use Rattle.heap_model.specs.CallState.{Configuration, Search, Stage, NotBegun, AtHint, FirstPass, SecondPass, caller_view}
-use Rattle.heap_model.specs.Search.{SearchKey, spans_of, may_pass, has_not_begun, asked_bucket, after_saw, after_lost, after_no_hint}
+use Rattle.heap_model.specs.State.{Setting, Span, holds, State}
+use Rattle.heap_model.specs.CallState.{Configuration, Search, Stage, NotBegun, AtHint, FirstPass, SecondPass, CallState}
+use Rattle.heap_model.specs.Search.{SearchKey, spans_of, has_not_begun, asked_bucket, after_saw, after_lost, after_no_hint}
 use Rattle.heap_model.specs.Legal.{after, step_search}
 use Rattle.heap_model.specs.History.{configuration_after}
 use Rattle.heap_model.specs.Layers.{sorted_back}
-use Rattle.heap_model.proofs.Stable.{caller_view_same}
 use Rattle.heap_soundness.specs.Sound.{IsOneOf}
 use Rattle.lane_scan.specs.Matches.{IsFirstMatch, NoneMatches}
 use Rattle.heap_model.specs.declared.Limits.{Limits}
@@ -29,7 +28,7 @@ use Rattle.lfh_search.specs.Acts.{by, is_reading, AreReadings, losses}
 use Rattle.lfh_search.specs.Standing.{dried, stage_onto}
 use Rattle.lfh_search.specs.Results.{Went, WaitsInside, HasPlaced, IsBeaten}
 use Rattle.lfh_search.specs.Readings.{KnowsHint, IsDried}
-use Rattle.lfh_search.specs.Passes.{IsPassing, HasPassed}
+use Rattle.lfh_search.specs.Passes.{IsOfPass, IsPassing, HasPassed}
 use Rattle.lfh_search.proofs.Steps.{readings-append}
 use Rattle.lfh_search.proofs.Words.{left, before, back_on, went_then}
 use Rattle.lfh_search.proofs.Seen.{waits_none}
@@ -53,31 +52,43 @@ span_left s n (act ∷ rest) m are = span_left s n rest (after s m (entry n act)
     one _ i = absurd (false≢true i)
 
 -- what a pass needs beside its search
-pub record Holding (c : Token) (back : Kept) : Type 0 where
+pub record Holding (c : Token) (back : Kept) (x : Stage) : Type 0 where
   pub back_is : IsBackOf c back
   pub out : is_out whats.Back c.out ≡ true
-  pub passes : Always c (λ s. may_pass (caller_view (now s c) c.number) ≡ true)
+  pub of_pass : IsOfPass c x
   pub waits : WaitsInside c
 
-pub kept_on : (c e : Token) (back : Kept) (its : List Act) → AreReadings its → Went c e its → KnowsHint c → Holding c back → Holding e back
-kept_on c e back [] are w k h = subst (λ (t : Token). Holding t back) (sym w) h
-kept_on c e back (x ∷ its) are w k h = record {
+pub kept_on : (c e : Token) (back : Kept) (its : List Act) → AreReadings its → (y : Stage) → Went c e its → KnowsHint c → Holding c back y → Holding e back y
+kept_on c e back [] are y w k h = subst (λ (t : Token). Holding t back y) (sym w) h
+kept_on c e back (x ∷ its) are y w k h = record {
   back_is = λ s q.
       let b = h.back_is s (before c e (x ∷ its) are w.0 s q) in
       record { lock = b.lock; limits = b.limits ∙ ap (λ (o : Opening). o.limits) (sym w.0.does.opening); part = b.part ∙ ap sorted_back (sym (back_on c e (x ∷ its) are w.0 k.held s q)) };
   out = ap (is_out whats.Back) w.1.out ∙ h.out;
-  passes = λ s q.
-      let m = configuration_after s (now s c) (by c.number (x ∷ its)) in
-      let st = (left s c.number (x ∷ its) (now s c) are).0 in
-      let ns = span_left s c.number (x ∷ its) (now s c) are in
-      ap (λ (n : ℕ). may_pass (caller_view (now s e) n)) w.0.does.number
-      ∙ (ap may_pass (caller_view_same c.number (now s e) m (w.0.agrees s q))
-      ∙ ((λ j. holds (st j).gate c.number whats.Back && (not (ns j) || holds (st j).gate c.number whats.Vs)) ∙ h.passes s (before c e (x ∷ its) are w.0 s q)));
+  of_pass = by y h.of_pass;
   waits = waits_none e w.1.prepared;
 }
+  where
+    vs : Always c (λ s. holds (now s c).state.gate c.number whats.Vs ≡ true) → Always e (λ s. holds (now s e).state.gate e.number whats.Vs ≡ true)
+    vs v s q =
+        ap (λ (n : ℕ). holds (now s e).state.gate n whats.Vs) w.0.does.number
+        ∙ ((w.0.agrees s q).locks whats.Vs
+        ∙ (ap (λ (z : State). holds z.gate c.number whats.Vs) (left s c.number (x ∷ its) (now s c) are).0 ∙ v s (before c e (x ∷ its) are w.0 s q)))
 
-pub kept_of : (c : Token) (back : Kept) (course : Course) (f : Search) (from lost : ℕ) → IsPassing c back course f from lost → Holding c back
-kept_of c back course f from lost z = record { back_is = z.back_is; out = z.out; passes = z.passes; waits = z.waits }
+    fresh : Always c (λ s. ((now s c).now.calls c.number).no_span ≡ false) → Always e (λ s. ((now s e).now.calls e.number).no_span ≡ false)
+    fresh v s q =
+        ap (λ (n : ℕ). ((now s e).now.calls n).no_span) w.0.does.number
+        ∙ (ap (λ (z : CallState). z.no_span) (w.0.agrees s q).call
+        ∙ (span_left s c.number (x ∷ its) (now s c) are ∙ v s (before c e (x ∷ its) are w.0 s q)))
+
+    by : (z : Stage) → IsOfPass c z → IsOfPass e z
+    by SecondPass v = vs v
+    by NotBegun v = fresh v
+    by AtHint v = fresh v
+    by FirstPass v = fresh v
+
+pub kept_of : (c : Token) (back : Kept) (course : Course) (f : Search) (from lost : ℕ) → IsPassing c back course f from lost → Holding c back f.stage
+kept_of c back course f from lost z = record { back_is = z.back_is; out = z.out; of_pass = z.of_pass; waits = z.waits }
 
 ---- Between subsegments
 
@@ -116,8 +127,8 @@ module _ (old c : Token) (back : Kept) (course : Course) (lost from so_far : ℕ
   }
 
   module _ (more : ℕ) (x : IsDried c e course.bucket course.draw.value z.search page so_far more) where
-    kept : Holding e back
-    kept = kept_on c e back x.its x.are x.went z.passing.hint (kept_of c back course z.search from so_far z.passing)
+    kept : Holding e back z.search.stage
+    kept = kept_on c e back x.its x.are z.search.stage x.went z.passing.hint (kept_of c back course z.search from so_far z.passing)
 
     same_slot : own_slot e ≡ own_slot c
     same_slot = slot_on c e x.its x.are x.went course.bucket course.draw.value z.search z.passing.searching
@@ -127,6 +138,12 @@ module _ (old c : Token) (back : Kept) (course : Course) (lost from so_far : ℕ
     begun AtHint = refl
     begun FirstPass = refl
     begun SecondPass = refl
+
+    onto_pass : (s : Stage) → IsOfPass e s → IsOfPass e (stage_onto s)
+    onto_pass NotBegun h = h
+    onto_pass AtHint h = h
+    onto_pass FirstPass h = h
+    onto_pass SecondPass h = h
 
     pub still : Same old e
     still = same_on old c e x.its x.are x.went course.bucket course.draw.value z.search z.passing.searching y
@@ -150,7 +167,7 @@ module _ (old c : Token) (back : Kept) (course : Course) (lost from so_far : ℕ
             read_on z.search course.bucket page from more w z.passing.begun m.from (z.passing.read w i') (not_between c back course z.search from so_far z.passing whole small page m w i');
         back_is = kept.back_is;
         out = kept.out;
-        passes = kept.passes;
+        of_pass = onto_pass z.search.stage kept.of_pass;
         hint = x.hint kept.out;
         waits = kept.waits;
       };

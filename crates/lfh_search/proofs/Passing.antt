@@ -1,9 +1,10 @@
 -- A pass that reads subsegments in the order of their pages.
 use Rattle.std.proofs.Common.{◌≡◌, inl, inr, ℕ, ◌+◌, ◌<◌, ◌≤◌, ◌==◌, Bool, true, false, not, ◌&&◌, ◌||◌, length, Option, Some, None, refl, sym, ap, ◌∙◌, subst, arith, eq-eqb, ne_eqb}
 use Rattle.std.specs.Prelude.{nat_lt, is_none}
-use Rattle.std.proofs.lemmas.Bool.{and_from, or_right, lt-ltb, le-ltb, cases_lt, cases_eq, false≢true}
+use Rattle.std.proofs.lemmas.Bool.{and_from, or_left, or_right, lt-ltb, le-ltb, cases_lt, cases_eq, false≢true}
+use Rattle.heap_model.specs.declared.What.TheVariants as whats
 use Rattle.heap_model.specs.Stay.{is_some_of}
-use Rattle.heap_model.specs.State.{Area, BackPart, Setting, Span}
+use Rattle.heap_model.specs.State.{Area, BackPart, Setting, Span, holds}
 use Rattle.heap_model.specs.CallState.{CallerView, Search, Stage, NotBegun, AtHint, FirstPass, SecondPass, SpanHistory, caller_view}
 use Rattle.heap_model.specs.Search.{SearchKey, spans_of, is_span_of, is_read, next_span, may_pass, may_see, may_see_at, first_word, has_not_begun, begins_span}
 use Rattle.heap_soundness.specs.Sound.{IsOneOf}
@@ -12,7 +13,7 @@ use Rattle.page_ranges.specs.Words.{runs_of}
 use Rattle.page_ranges.specs.Ranges.{IsWhole}
 use Rattle.claim_rule.specs.Entries.{IsSettingOf}
 use Rattle.backend_fit.specs.Kept.{Kept, area_of}
-use Rattle.heap_gate.specs.Token.{Token, now}
+use Rattle.heap_gate.specs.Token.{Token, now, Always}
 use Rattle.lfh_claims.specs.Search.{own_slot}
 use Rattle.lfh_claims.specs.Stays.{HasRead}
 use Rattle.lfh_search.specs.declared.course.Course.{Course}
@@ -23,7 +24,7 @@ use Rattle.step_parts.proofs.Tags.{seen_in_area}
 use Rattle.heap_soundness.proofs.GapRuns.{filtered_cases}
 use Rattle.lfh_search.specs.Results.{MayBegin}
 use Rattle.lfh_search.specs.Readings.{CanRead}
-use Rattle.lfh_search.specs.Passes.{as_pass, as_pass_at, IsPassing}
+use Rattle.lfh_search.specs.Passes.{as_pass, as_pass_at, IsOfPass, IsPassing}
 use Rattle.lfh_search.proofs.Readings.{seen_by}
 use Rattle.lfh_search.proofs.Heads.{mine_parts, heads_shown, head_is, mine_rise, first_from}
 
@@ -60,6 +61,16 @@ at_stage a r u v f g head word e b h = by f.stage b h
     by FirstPass b h = rw e h
     by SecondPass b h = rw e h
 
+-- .. which may go on
+pub may_go : (c : Token) (back : Kept) (course : Course) (f : Search) (from lost : ℕ) → IsPassing c back course f from lost → Always c (λ s. may_pass (caller_view (now s c) c.number) ≡ true)
+may_go c back course f from lost z s q = and_from (holds (now s c).state.gate c.number whats.Back) _ (z.hint.held s q) (by f.stage z.of_pass)
+  where
+    by : (x : Stage) → IsOfPass c x → (not ((now s c).now.calls c.number).no_span || holds (now s c).state.gate c.number whats.Vs) ≡ true
+    by SecondPass h = or_right (not ((now s c).now.calls c.number).no_span) _ (h s q)
+    by NotBegun h = or_left (not ((now s c).now.calls c.number).no_span) _ (ap not (h s q))
+    by AtHint h = or_left (not ((now s c).now.calls c.number).no_span) _ (ap not (h s q))
+    by FirstPass h = or_left (not ((now s c).now.calls c.number).no_span) _ (ap not (h s q))
+
 ---- The next to be read
 
 module _ (c : Token) (back : Kept) (course : Course) (f : Search) (from lost : ℕ) (z : IsPassing c back course f from lost) (whole : IsWhole back.words) (small : course.bucket < 256) where
@@ -94,7 +105,7 @@ module _ (c : Token) (back : Kept) (course : Course) (f : Search) (from lost : �
         let next : is_some_of (next_span k.state.back.area (key b t course.draw.value) (as_pass f)) page ≡ true = ap (λ (a : Area). is_some_of (next_span a (key b t course.draw.value) (as_pass f)) page) (area_is s q) ∙ (ap (λ (o : Option ℕ). is_some_of o page) (next_is page m) ∙ eq-eqb page page refl) in
         let w : CallerView = record v { call = record v.call { search = f } } in
         let e : v ≡ w = seen_by v f (z.searching s q).search in
-        let may : may_pass w ≡ true = ap may_pass (sym e) ∙ z.passes s q in
+        let may : may_pass w ≡ true = ap may_pass (sym e) ∙ may_go c back course f from lost z s q in
         let span : begins_span k.state.back.area w (key b t course.draw.value) (as_pass f) page (first_word (key b t course.draw.value)) ≡ true =
         and_from (first_word (key b t course.draw.value) == first_word (key b t course.draw.value) && may_pass w) _ (and_from (first_word (key b t course.draw.value) == first_word (key b t course.draw.value)) _ (eq-eqb (first_word (key b t course.draw.value)) (first_word (key b t course.draw.value)) refl) may) next in
         ap (λ (y : CallerView). may_see k.state.back.area k.now.span_history (k.now.disturbed c.number) y (key b t course.draw.value) page (first_word (key b t course.draw.value))) e

@@ -6,3 +6,4 @@ pub mod Results
 pub mod Readings
 pub mod Hints
 pub mod Passes
+pub mod Laws

@@ -2,9 +2,9 @@
 use Rattle.std.specs.Prelude.{◌≡◌, ℕ, ◌+◌, ◌<◌, nat_lt, true, false, List, [], None}
 use Rattle.heap_model.specs.declared.Act.{Act}
 use Rattle.heap_model.specs.declared.What.TheVariants as whats
-use Rattle.heap_model.specs.State.{Span}
-use Rattle.heap_model.specs.CallState.{Search, Stage, AtHint, caller_view}
-use Rattle.heap_model.specs.Search.{has_not_begun, may_pass, is_read, spans_of}
+use Rattle.heap_model.specs.State.{Span, holds}
+use Rattle.heap_model.specs.CallState.{Search, Stage, AtHint, SecondPass}
+use Rattle.heap_model.specs.Search.{has_not_begun, is_read, spans_of}
 use Rattle.heap_soundness.specs.Sound.{IsOneOf}
 use Rattle.backend_fit.specs.Kept.{Kept, area_of}
 use Rattle.heap_gate.specs.Token.{Token, Always, now, is_out}
@@ -25,6 +25,11 @@ as_pass_at f _ = f
 abbrev pub as_pass : Search → Search
 as_pass f = as_pass_at f f.stage
 
+-- The first pass comes before NoSpan, the second behind it, with Vs held too.
+abbrev pub IsOfPass : Token → Stage → Type 0
+IsOfPass c SecondPass = Always c (λ s. holds (now s c).state.gate c.number whats.Vs ≡ true)
+IsOfPass c _ = Always c (λ s. ((now s c).now.calls c.number).no_span ≡ false)
+
 -- A pass has read the subsegments that begin before a page, and so many claims were lost.
 pub record IsPassing (c : Token) (back : Kept) (course : Course) (f : Search) (from lost : ℕ) : Type 0 where
   pub searching : Searches c course.bucket course.draw.value f
@@ -36,7 +41,7 @@ pub record IsPassing (c : Token) (back : Kept) (course : Course) (f : Search) (f
   pub read : (x : Span) → IsOneOf x (spans_of (area_of back) course.bucket (own_slot c)) → is_read (as_pass f) x ≡ nat_lt x.first from
   pub back_is : IsBackOf c back
   pub out : is_out whats.Back c.out ≡ true
-  pub passes : Always c (λ s. may_pass (caller_view (now s c) c.number) ≡ true)
+  pub of_pass : IsOfPass c f.stage
   pub hint : KnowsHint c
   pub waits : WaitsInside c
 

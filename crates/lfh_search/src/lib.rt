@@ -7,6 +7,7 @@
 
 mod course;
 mod hint;
+pub mod laws;
 mod pass;
 mod reading;
 
