@@ -5,7 +5,7 @@ ghost use Rattle.std.specs.Prelude.{ℕ};
 ghost use Rattle.heap_model.specs.declared.Call.TheVariants as calls;
 ghost use Rattle.one_caller_laws.specs.OneCall.{AllocationIsDetermined, IsDetermined};
 ghost use Rattle.one_caller_laws.specs.Asked.{EachThenAll, RunsOfOthersAreOne};
-ghost use Rattle.one_caller_laws.specs.Worked.{SearchIsNotDetermined, TwoHints, TwoReplies, TwoWays};
+ghost use Rattle.one_caller_laws.specs.Worked.{SearchIsNotDetermined, SerialIsNoFunction, TwoHints, TwoReplies, TwoWays};
 
 /// An allocation in which the front end has no part: large, of the back end, or of the variable-size layer.
 pub fn allocation_is_determined()
@@ -80,4 +80,9 @@ pub fn two_replies()
 /// So what the front end serves is not determined by what a heap shows.
 pub fn search_is_not_determined()
     ensures { SearchIsNotDetermined }
+{}
+
+/// Nor is what a list of calls is answered a function of the calls, the limits and the seed, as long as the lists leave that open.
+pub fn serial_is_no_function()
+    ensures { SerialIsNoFunction }
 {}
