@@ -1,27 +1,26 @@
 -- The worked pairs evaluate.
-use Rattle.std.proofs.Common.{◌≡◌, ℕ, ◌<◌, ◌++◌, List, [], ◌∷◌, map, Bool, true, ◌&&◌, not, Option, Some, None, refl, sym, ap, subst, ◌∙◌, arith}
+use Rattle.std.proofs.Common.{◌≡◌, ℕ, ◌<◌, List, [], ◌∷◌, map, true, not, Option, Some, None, refl, sym, ap, subst, ◌∙◌, arith}
 use Rattle.std.specs.List.{list_all}
 use Rattle.std.proofs.lemmas.Bool.{and_from}
 use Rattle.rand_pcg.specs.Lcg.{state_after}
 use Rattle.heap_model.specs.declared.Act.{Act}
 use Rattle.heap_model.specs.declared.Act.TheVariants as acts
-use Rattle.heap_model.specs.declared.Call.{Call}
 use Rattle.heap_model.specs.declared.Reply.{Reply}
 use Rattle.heap_model.specs.declared.Reply.TheVariants as replies
 use Rattle.heap_model.specs.State.{Setting, State, IsValidSetting}
 use Rattle.heap_model.specs.CallState.{Configuration}
 use Rattle.heap_model.specs.Search.{draw_of, hint}
-use Rattle.heap_model.specs.Legal.{is_begin, after}
+use Rattle.heap_model.specs.Legal.{is_begin}
 use Rattle.heap_model.specs.History.{first_configuration, may_all_follow, configuration_after, is_nothing}
-use Rattle.heap_model.specs.Alone.{alone, by_zero, configuration_by, may_all_come}
-use Rattle.heap_model.specs.Moments.{Moment, moments_by}
+use Rattle.heap_model.specs.Alone.{by_zero, configuration_by, may_all_come}
+use Rattle.heap_model.specs.Moments.{moments_by}
 use Rattle.heap_model.specs.Served.{IsOneCall, GetsReply, IsServed, AreServed, by_depth, depth_after}
 use Rattle.heap_model.specs.Serial.{IsIdle, IsSerial}
 use Rattle.heap_model.specs.Shape.{Replied, HasActs, shape_of}
 use Rattle.heap_model.proofs.Moments.{acts_by, told_by_acts}
 use Rattle.serial_laws.proofs.Turns.{come_follow, come_to, moments_by-append, asks_one}
 use Rattle.one_caller_laws.specs.OneCall.{AreAlike}
-use Rattle.one_caller_laws.specs.Worked.{Told, acts_of_all, asked_in, replied_in, one, straight, winding, TwoWays, two_spans, filled, under_lock, behind_lock, asks_again, all_under, all_behind, TwoHints, TwoReplies, SearchIsNotDetermined, SerialIsNoFunction, block_at}
+use Rattle.one_caller_laws.specs.Worked.{Told, acts_of_all, asked_in, replied_in, one, TwoWays, two_spans, filled, under_lock, behind_lock, asks_again, all_under, all_behind, TwoHints, TwoReplies, SearchIsNotDetermined, SerialIsNoFunction, block_at}
 
 pub two_ways : TwoWays
 two_ways = record {

@@ -1,8 +1,9 @@
 // What one caller alone is answered is determined: each law is the contract of a function that does nothing.
 #![tactic(auto)]
 
-ghost use Rattle.std.specs.Prelude.{ℕ};
+ghost use Rattle.std.specs.Prelude.{◌≡◌, ℕ, true};
 ghost use Rattle.heap_model.specs.declared.Call.TheVariants as calls;
+ghost use Rattle.heap_model.specs.declared.Flags.{Flags};
 ghost use Rattle.one_caller_laws.specs.OneCall.{AllocationIsDetermined, IsDetermined};
 ghost use Rattle.one_caller_laws.specs.Asked.{EachThenAll, RunsOfOthersAreOne};
 ghost use Rattle.one_caller_laws.specs.Worked.{SearchIsNotDetermined, SerialIsNoFunction, TwoHints, TwoReplies, TwoWays};
@@ -47,6 +48,11 @@ pub fn walk_is_determined()
     ensures { (from : ℕ) → IsDetermined (calls.WalkNext from) }
 {}
 
+/// A reallocation that may not move its block, of whatever layer and size.
+pub fn in_place_is_determined()
+    ensures { (a n : ℕ) (flags : Flags) → flags.in_place ≡ true → IsDetermined (calls.Realloc a n flags) }
+{}
+
 /// A compaction.
 pub fn compaction_is_determined()
     ensures { IsDetermined calls.Compact }
@@ -57,7 +63,7 @@ pub fn each_then_all()
     ensures { EachThenAll }
 {}
 
-/// So are two runs of a script in which the front end has no part, and nothing is reallocated.
+/// So are two runs of a script in which the front end has no part, and no block is reallocated but in place.
 pub fn runs_of_others_are_one()
     ensures { RunsOfOthersAreOne }
 {}
