@@ -59,11 +59,11 @@ allocated_is n flags replies.NoFit shape h = IsRefused refl (fits_none_is n shap
 allocated_is n flags _ shape h = absurd h
 
 -- the words that are zeroed
-abbrev zeroed_words : Bool → ℕ → ℕ → List ℕ
+abbrev pub zeroed_words : Bool → ℕ → ℕ → List ℕ
 zeroed_words true word count = numbers word count
 zeroed_words false word count = []
 
-zeros_are : (zero : Bool) (word count : ℕ) → zeros zero word count ≡ map (λ w. acts.Store w 0) (zeroed_words zero word count)
+pub zeros_are : (zero : Bool) (word count : ℕ) → zeros zero word count ≡ map (λ w. acts.Store w 0) (zeroed_words zero word count)
 zeros_are true word count = refl
 zeros_are false word count = refl
 

@@ -27,6 +27,7 @@ use Rattle.heap_soundness.proofs.GapRuns.{filtered_cases, in_filtered}
 use Rattle.heap_soundness.proofs.Spans.{same_first}
 use Rattle.heap_soundness.proofs.Lists.{found_in}
 use Rattle.search_laws.proofs.Filtered.{all_kept}
+use Rattle.search_laws.proofs.Steps.{by_append}
 use Rattle.one_caller_laws.specs.OneCall.{IsDetermined}
 use Rattle.one_caller_laws.proofs.Gate.{no_other}
 use Rattle.one_caller_laws.proofs.Core.{Core, core_of, hints_of}
@@ -81,10 +82,6 @@ last_is s m act [] = record { pre = []; last = act; is = refl; state = refl }
 last_is s m act (next ∷ rest) =
     let x = last_is s (after s m (by_zero act)) next rest in
     record { pre = act ∷ x.pre; last = x.last; is = ap (λ (l : List Act). act ∷ l) x.is; state = x.state }
-
-by_append : (s : Setting) (m : Configuration) (xs : List Act) (act : Act) → configuration_by s m (xs ++ act ∷ []) ≡ after s (configuration_by s m xs) (by_zero act)
-by_append s m [] act = refl
-by_append s m (x ∷ xs) act = by_append s (after s m (by_zero x)) xs act
 
 module _ (s : Setting) (old : Configuration) (whole : IsWhole (core_of old)) where
   -- a span of another layer has its place all along
@@ -232,7 +229,7 @@ compacts_so s m number rest w whole g x = by_rest rest g x.all (sym (shown_is s 
         let compact = subst (λ (o : Option State). In o IsCompact) l.state all in
         let stays = leaves s old whole k (0 + pages_in (shape_of l.pre)) l.last c.compacting compact c.goes c.shape in
         let d = compacted s old (act ∷ rest) [] old 0 start (subst (Goes s old) (sym (none_behind (act ∷ rest))) g) (subst (λ (r : List Act). list_all is_lockish (shape_of r) ≡ true) (sym (none_behind (act ∷ rest))) lockish) in
-        let e : configuration_by s old (act ∷ rest) ≡ after s k (by_zero l.last) = ap (configuration_by s old) l.is ∙ by_append s old l.pre l.last in
+        let e : configuration_by s old (act ∷ rest) ≡ after s k (by_zero l.last) = ap (configuration_by s old) l.is ∙ by_append s old l.pre (l.last ∷ []) in
         let area : (configuration_by s old (act ∷ rest)).state.back.area ≡ k.state.back.area = ap (λ (j : Configuration). j.state.back.area) e ∙ stays.0 in
         let lfh : (configuration_by s old (act ∷ rest)).state.lfh ≡ k.state.lfh = ap (λ (j : Configuration). j.state.lfh) e ∙ stays.1 in
         let number_is : 0 + pages_in (shape_of (act ∷ rest)) ≡ number = (let a = counted_under lock x.pages in let b = ap pages_in shape in let q = x.counted in omega (arith, a, b, q)) in

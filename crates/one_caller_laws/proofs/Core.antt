@@ -56,7 +56,7 @@ hints_of m = m.now.span_history.hints
 pub same_place : (s : Setting) (m n : Configuration) → Keeps s m → Keeps s n → core_of m ≡ core_of n → (a : ℕ) → place_at m.state 0 a ≡ place_at n.state 0 a
 same_place s m n k l e a = place_among_all s m 0 a k ∙ ap (λ (c : Core). find (has_address a) (places_in_core c)) e ∙ sym (place_among_all s n 0 a l)
 
-stay_by : (l : Limits) (st other : State) → st.back ≡ other.back → st.vs ≡ other.vs → st.large ≡ other.large → (p : Place) (n : ℕ) (k : Layer) → p.layer ≡ k → lets_stay l st p n ≡ lets_stay l other p n
+pub stay_by : (l : Limits) (st other : State) → st.back ≡ other.back → st.vs ≡ other.vs → st.large ≡ other.large → (p : Place) (n : ℕ) (k : Layer) → p.layer ≡ k → lets_stay l st p n ≡ lets_stay l other p n
 stay_by l st other back vs large p n layers.Lfh e = rw e refl
 stay_by l st other back vs large p n layers.Vs e =
     rw e (λ i. leb n 131072 && leb (units_of n) (p.granules + run_from (gaps_of (vs_spans (back i).area) (vs i).places) (p.start / 16 + p.granules)))

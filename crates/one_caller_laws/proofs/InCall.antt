@@ -16,6 +16,7 @@ use Rattle.heap_model.specs.CallState.{CallerView, Configuration, Nothing, calle
 use Rattle.heap_model.specs.Search.{Request, request_of, searched, span_at}
 use Rattle.heap_model.specs.Legal.{may, may_follow, after, disturbed_after, is_begin, is_compact, goes_to_lfh, searches, has_place, places_in, may_unspan_of, is_unused, are_used}
 use Rattle.heap_model.specs.Alone.{by_zero, configuration_by, may_all_come}
+use Rattle.heap_model.specs.Moments.{moments_by, state_before}
 use Rattle.heap_model.specs.Shape.{is_left_out, shape_of}
 use Rattle.heap_model.proofs.GateSound.{row_of}
 use Rattle.heap_model.proofs.ListLemmas.{for_some_parts, is_some_of_parts}
@@ -113,6 +114,7 @@ pub record Stop (s : Setting) (call : Call) (m : Configuration) (rest : List Act
   pub comes : may_all_come s (after s at (by_zero act)) later ≡ true
   pub none : begins_none later
   pub shape : shape_of rest ≡ shape_of (act ∷ later)
+  pub looks : (test : Act → Bool) → ((a : Act) → is_quiet a ≡ true → test a ≡ false) → state_before test (moments_by s m rest) ≡ state_before test (moments_by s at (act ∷ later))
   pub ends : configuration_by s m rest ≡ configuration_by s (after s at (by_zero act)) later
 
 -- .. or there is none
@@ -143,6 +145,7 @@ walk s call m (act ∷ rest) w d h n =
         comes = p.1;
         none = q.1;
         shape = refl;
+        looks = λ test k. refl;
         ends = refl;
       })
       | inl quiet ↦ on quiet p.0 b (walk s call (after s m (by_zero act)) rest (in_call_after s call m act w p.0 b) (quiet_demand s m act quiet) p.1 q.1)
@@ -163,6 +166,7 @@ walk s call m (act ∷ rest) w d h n =
       comes = x.comes;
       none = x.none;
       shape = ap (λ (b : Bool). cond b (shape_of rest) (act ∷ shape_of rest)) (quiet_left_out act quiet) ∙ x.shape;
+      looks = λ test k. let e = k act quiet in rw e (x.looks test k);
       ends = x.ends;
     })
     on quiet h b (inr x) = inr (record {

@@ -21,3 +21,4 @@ pub mod Compact
 pub mod Runs
 pub mod Others
 pub mod WorkedPairs
+pub mod InPlace

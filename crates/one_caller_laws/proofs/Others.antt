@@ -14,6 +14,7 @@ use Rattle.one_caller_laws.proofs.Words.{get_determined, put_determined, lock_de
 use Rattle.one_caller_laws.proofs.Freeing.{free_determined}
 use Rattle.one_caller_laws.proofs.Compact.{compact_determined}
 use Rattle.one_caller_laws.proofs.Allocs.{allocation_determined}
+use Rattle.one_caller_laws.proofs.InPlace.{in_place_determined}
 use Rattle.one_caller_laws.proofs.Runs.{each_then_all}
 
 -- so many bytes have no bucket
@@ -30,7 +31,7 @@ each_of_others : (call : Call) → IsOfOthers call → IsDetermined call
 each_of_others (calls.Alloc n flags) h = λ s m k reply other rest others valid b c alike x y.
     allocation_determined s m k reply other rest others n flags valid b c alike (ap (λ (o : Option ℕ). for_some o (goes_to_lfh m.state.vs)) (unbucketed n h)) x y
 each_of_others (calls.Free a) h = free_determined a
-each_of_others (calls.Realloc a n flags) h = absurd h
+each_of_others (calls.Realloc a n flags) h = in_place_determined a n flags h
 each_of_others (calls.Size a) h = size_determined a
 each_of_others (calls.Get a index) h = get_determined a index
 each_of_others (calls.Put a index v) h = put_determined a index v

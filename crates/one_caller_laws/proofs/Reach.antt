@@ -11,11 +11,12 @@ use Rattle.heap_model.specs.State.{Setting, Span}
 use Rattle.heap_model.specs.CallState.{Configuration, Nothing, SpanBy, PlaceBy}
 use Rattle.heap_model.specs.Legal.{may_follow, after, is_begin, is_compact, meets_demand, meets_place, meets_span}
 use Rattle.heap_model.specs.Alone.{by_zero, configuration_by, may_all_come}
+use Rattle.heap_model.specs.Moments.{moments_by, state_before}
 use Rattle.heap_model.specs.Shape.{is_left_out, shape_of}
 use Rattle.heap_model.specs.Serial.{IsIdle}
 use Rattle.heap_soundness.proofs.Kept.{demand_met}
 use Rattle.one_caller_laws.proofs.Core.{core_of, hints_of}
-use Rattle.one_caller_laws.proofs.InCall.{InCall, begins_none, Stop, Ended, walk, IsWhole, SearchesNone, is_shown, shows, still_none}
+use Rattle.one_caller_laws.proofs.InCall.{is_quiet, InCall, begins_none, Stop, Ended, walk, IsWhole, SearchesNone, is_shown, shows, still_none}
 
 -- caller 0 is in a call that is no compaction, nothing is searched, all spans have places, and nothing has to follow
 pub record Calm (s : Setting) (call : Call) (m : Configuration) : Type 0 where
@@ -133,6 +134,7 @@ pub record Reaches (s : Setting) (call : Call) (m : Configuration) (rest : List 
   pub calm : Calm s call at
   pub goes : Goes s at (act ∷ later)
   pub shape : shape_of later ≡ t
+  pub looks : (test : Act → Bool) → ((a : Act) → is_quiet a ≡ true → test a ≡ false) → state_before test (moments_by s m rest) ≡ state_before test (moments_by s at (act ∷ later))
   pub ends : configuration_by s m rest ≡ configuration_by s (after s at (by_zero act)) later
 
 -- the stop, where something is shown yet
@@ -178,6 +180,7 @@ to_shown s call m rest act t c g e other = at_stop (to_stop s call m rest act t 
                 calm = k;
                 goes = subst (λ (a : Act). Goes s x.at (a ∷ x.later)) same go;
                 shape = more;
+                looks = λ test k. x.looks test k ∙ ap (λ (a : Act). state_before test (moments_by s x.at (a ∷ x.later))) same;
                 ends = x.ends ∙ ap (λ (a : Act). configuration_by s (after s x.at (by_zero a)) x.later) same;
               }
         ]

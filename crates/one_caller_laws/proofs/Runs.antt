@@ -1,5 +1,5 @@
 -- From single calls to runs of a script.
-use Rattle.std.proofs.Common.{◌≡◌, ℕ, ◌+◌, ◌==◌, Bool, true, false, List, [], ◌∷◌, ◌++◌, Option, Some, None, refl, sym, ap, ◌∙◌, subst}
+use Rattle.std.proofs.Common.{append_assoc, ◌≡◌, ℕ, ◌+◌, ◌==◌, Bool, true, false, List, [], ◌∷◌, ◌++◌, Option, Some, None, refl, sym, ap, ◌∙◌, subst}
 use Rattle.std.proofs.lemmas.Bool.{and_parts, and_from, false≢true, true≢false}
 use Rattle.heap_model.specs.declared.Act.{Act}
 use Rattle.heap_model.specs.declared.Act.TheVariants as acts
@@ -20,6 +20,7 @@ use Rattle.heap_model.proofs.GateSound.{row_of}
 use Rattle.heap_model.proofs.Moments.{acts_by}
 use Rattle.heap_soundness.proofs.Kept.{demand_met}
 use Rattle.serial_laws.proofs.Turns.{first_idle}
+use Rattle.search_laws.proofs.Steps.{come_append, by_append}
 use Rattle.one_caller_laws.specs.OneCall.{IsBetween, AreAlike, Answers, IsDetermined, IsSameReply}
 use Rattle.one_caller_laws.specs.Asked.{Script, IsScripted, Runs, AsksOnly, EachThenAll}
 
@@ -54,16 +55,6 @@ come_parts s m (act ∷ xs) ys h =
     let p = and_parts (may_follow s m (by_zero act)) (may_all_come s (after s m (by_zero act)) (xs ++ ys)) h in
     let q = come_parts s (after s m (by_zero act)) xs ys p.1 in
     (and_from (may_follow s m (by_zero act)) _ p.0 q.0, q.1)
-
-come_both : (s : Setting) (m : Configuration) (xs ys : List Act) → may_all_come s m xs ≡ true → may_all_come s (configuration_by s m xs) ys ≡ true → may_all_come s m (xs ++ ys) ≡ true
-come_both s m [] ys h k = k
-come_both s m (act ∷ xs) ys h k =
-    let p = and_parts (may_follow s m (by_zero act)) (may_all_come s (after s m (by_zero act)) xs) h in
-    and_from (may_follow s m (by_zero act)) _ p.0 (come_both s (after s m (by_zero act)) xs ys p.1 k)
-
-by_append : (s : Setting) (m : Configuration) (xs ys : List Act) → configuration_by s m (xs ++ ys) ≡ configuration_by s (configuration_by s m xs) ys
-by_append s m [] ys = refl
-by_append s m (act ∷ xs) ys = by_append s (after s m (by_zero act)) xs ys
 
 -- where a call may begin, none is
 idle_before : (s : Setting) (m : Configuration) (call : Call) → may_follow s m (by_zero (acts.Begin call)) ≡ true → IsIdle m
@@ -139,7 +130,7 @@ one_behind s call reply m rest made later f h g starts =
           from = record {
             between = record {
               acts = b.acts ++ all;
-              legal = come_both s first_configuration b.acts all b.legal (subst (λ (j : Configuration). may_all_come s j all ≡ true) b.leads c.0);
+              legal = come_append s first_configuration b.acts all b.legal (subst (λ (j : Configuration). may_all_come s j all ≡ true) b.leads c.0);
               leads = ap (λ (j : Configuration). configuration_by s j all) b.leads ∙ sym (by_append s first_configuration b.acts all);
               idle = idle;
             };
@@ -161,14 +152,10 @@ gets_starts s call reply made later k last g h =
     let o = one_call call p.first (subst (IsOneCall call) (ap acts_of p.made_is ∙ acts_by s k p.first) g.one) in
     Begins call (o.0 ++ p.last) (p.is ∙ ap (λ (l : List Act). l ++ p.last) o.1)
 
-append_again : (xs ys zs : List Moment) → (xs ++ ys) ++ zs ≡ xs ++ (ys ++ zs)
-append_again [] ys zs = refl
-append_again (x ∷ xs) ys zs = ap (λ (l : List Moment). x ∷ l) (append_again xs ys zs)
-
 walk_starts : (s : Setting) (count from : ℕ) (rs : List Reply) (made later : List Moment) (k : Configuration) (last : List Act) → IsWalk (GetsReply s 0) count from rs made → made ++ later ≡ moments_by s k last → Starts last
 walk_starts s count from [] made later k last w h = absurd w
 walk_starts s count from (replies.Seen b ∷ rs) made later k last w h =
-    gets_starts s (calls.WalkNext from) (replies.Seen b) w.0 (w.1 ++ later) k last w.3 (sym (ap (λ (l : List Moment). l ++ later) w.2 ∙ append_again w.0 w.1 later) ∙ h)
+    gets_starts s (calls.WalkNext from) (replies.Seen b) w.0 (w.1 ++ later) k last w.3 (sym (ap (λ (l : List Moment). l ++ later) w.2 ∙ append_assoc w.0 w.1 later) ∙ h)
 walk_starts s count from (replies.Walked n ∷ []) made later k last w h = gets_starts s (calls.WalkNext from) (replies.Walked n) made later k last w.1 h
 walk_starts s count from (replies.Walked n ∷ r ∷ rs) made later k last w h = absurd w
 walk_starts s count from (replies.Address a ∷ rs) made later k last w h = absurd w
@@ -284,18 +271,18 @@ walk_of_both s (replies.Walked c ∷ []) rs_too count from m rest n others made 
         let same : replies.Walked c ∷ [] ≡ rs_too = ap (λ (k : ℕ). replies.Walked k ∷ []) (w.0 ∙ sym d_is) ∙ sym is in
         subst (λ (l : List Reply). Both s m rest n others (replies.Walked c ∷ []) l later later_too) same (x.both (replies.Walked c ∷ []))
     by_other (GoesOn d more its after_its is parts_are gets walks) =
-        let x = one_of_both s (calls.WalkNext from) m rest n others (replies.Walked c) (replies.Seen d) made its later (after_its ++ later_too) valid (det from) alike f g e (h ∙ ap (λ (l : List Moment). l ++ later_too) parts_are ∙ append_again its after_its later_too) w.1 gets a
+        let x = one_of_both s (calls.WalkNext from) m rest n others (replies.Walked c) (replies.Seen d) made its later (after_its ++ later_too) valid (det from) alike f g e (h ∙ ap (λ (l : List Moment). l ++ later_too) parts_are ∙ append_assoc its after_its later_too) w.1 gets a
         (λ k last q. walk_starts s (count + 1) (d.addr + 1) more after_its later_too k last walks q) in
         absurd (let z : replies.Walked c ≡ replies.Seen d = x.same in let bad : ⊥ = cc in bad)
 walk_of_both s (replies.Seen c ∷ rs) rs_too count from m rest n others made made_too later later_too valid det alike f g e h w v a b =
     elim (walk_ends s count from rs_too made_too v) [
       | Ends d is d_is gets ↦
           let x = one_of_both s (calls.WalkNext from) m rest n others (replies.Seen c) (replies.Walked d) w.0 made_too (w.1 ++ later) later_too valid (det from) alike f g
-          (e ∙ ap (λ (l : List Moment). l ++ later) w.2 ∙ append_again w.0 w.1 later) h w.3 gets (λ k last q. walk_starts s (count + 1) (c.addr + 1) rs w.1 later k last w.4 q) b in
+          (e ∙ ap (λ (l : List Moment). l ++ later) w.2 ∙ append_assoc w.0 w.1 later) h w.3 gets (λ k last q. walk_starts s (count + 1) (c.addr + 1) rs w.1 later k last w.4 q) b in
           absurd (let z : replies.Seen c ≡ replies.Walked d = x.same in let bad : ⊥ = cc in bad)
       | GoesOn d more its after_its is parts_are gets walks ↦
           let x = one_of_both s (calls.WalkNext from) m rest n others (replies.Seen c) (replies.Seen d) w.0 its (w.1 ++ later) (after_its ++ later_too) valid (det from) alike f g
-          (e ∙ ap (λ (l : List Moment). l ++ later) w.2 ∙ append_again w.0 w.1 later) (h ∙ ap (λ (l : List Moment). l ++ later_too) parts_are ∙ append_again its after_its later_too) w.3 gets
+          (e ∙ ap (λ (l : List Moment). l ++ later) w.2 ∙ append_assoc w.0 w.1 later) (h ∙ ap (λ (l : List Moment). l ++ later_too) parts_are ∙ append_assoc its after_its later_too) w.3 gets
           (λ k last q. walk_starts s (count + 1) (c.addr + 1) rs w.1 later k last w.4 q) (λ k last q. walk_starts s (count + 1) (d.addr + 1) more after_its later_too k last walks q) in
           let y = x.both [] in
           let same = seen_is c d x.same in

@@ -40,7 +40,7 @@ duo_step s call m act rest n others d core whole none none_too demand demand_too
 }
 
 -- a word is stored, of a call that asks for no size
-duo_store : (s : Setting) (call : Call) (m : Configuration) (word v : ℕ) (rest : List Act) (n : Configuration) (others : List Act) → Duo s call m (acts.Store word v ∷ rest) n (acts.Store word v ∷ others) →
+pub duo_store : (s : Setting) (call : Call) (m : Configuration) (word v : ℕ) (rest : List Act) (n : Configuration) (others : List Act) → Duo s call m (acts.Store word v ∷ rest) n (acts.Store word v ∷ others) →
     ((k : Configuration) → sought_by s k.state 0 call ≡ None) → Duo s call (after s m (by_zero (acts.Store word v))) rest (after s n (by_zero (acts.Store word v))) others
 duo_store s call m word v rest n others d asks =
     let act = acts.Store word v in

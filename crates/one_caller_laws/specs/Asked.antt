@@ -47,10 +47,10 @@ AsksOnly P script = (before : List Reply) (call : Call) → script before ≡ So
 abbrev pub EachThenAll : Type 0
 EachThenAll = (s : Setting) (script : Script) → IsValidSetting s → AsksOnly IsDetermined script → AreOne s script
 
--- any call but a reallocation, and an allocation of so many bytes that the front end never serves it
+-- any call but an allocation of so few bytes that the front end may serve it, and a reallocation that may move its block
 abbrev pub IsOfOthers : Call → Type 0
 IsOfOthers (calls.Alloc n flags) = 16368 < n
-IsOfOthers (calls.Realloc a n flags) = ⊥
+IsOfOthers (calls.Realloc a n flags) = flags.in_place ≡ true
 IsOfOthers call = Unit {0}
 
 -- Of scripts of such calls it is so.

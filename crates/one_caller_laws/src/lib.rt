@@ -1,11 +1,12 @@
 // What one caller alone is answered is determined: each law is the contract of a function that does nothing.
 #![tactic(auto)]
 
-ghost use Rattle.std.specs.Prelude.{ℕ};
+ghost use Rattle.std.specs.Prelude.{◌≡◌, ℕ, true};
 ghost use Rattle.heap_model.specs.declared.Call.TheVariants as calls;
+ghost use Rattle.heap_model.specs.declared.Flags.{Flags};
 ghost use Rattle.one_caller_laws.specs.OneCall.{AllocationIsDetermined, IsDetermined};
 ghost use Rattle.one_caller_laws.specs.Asked.{EachThenAll, RunsOfOthersAreOne};
-ghost use Rattle.one_caller_laws.specs.Worked.{SearchIsNotDetermined, TwoHints, TwoReplies, TwoWays};
+ghost use Rattle.one_caller_laws.specs.Worked.{SearchIsNotDetermined, SerialIsNoFunction, TwoHints, TwoReplies, TwoWays};
 
 /// An allocation in which the front end has no part: large, of the back end, or of the variable-size layer.
 pub fn allocation_is_determined()
@@ -47,6 +48,11 @@ pub fn walk_is_determined()
     ensures { (from : ℕ) → IsDetermined (calls.WalkNext from) }
 {}
 
+/// A reallocation that may not move its block, of whatever layer and size.
+pub fn in_place_is_determined()
+    ensures { (a n : ℕ) (flags : Flags) → flags.in_place ≡ true → IsDetermined (calls.Realloc a n flags) }
+{}
+
 /// A compaction.
 pub fn compaction_is_determined()
     ensures { IsDetermined calls.Compact }
@@ -57,7 +63,7 @@ pub fn each_then_all()
     ensures { EachThenAll }
 {}
 
-/// So are two runs of a script in which the front end has no part, and nothing is reallocated.
+/// So are two runs of a script in which the front end has no part, and no block is reallocated but in place.
 pub fn runs_of_others_are_one()
     ensures { RunsOfOthersAreOne }
 {}
@@ -80,4 +86,9 @@ pub fn two_replies()
 /// So what the front end serves is not determined by what a heap shows.
 pub fn search_is_not_determined()
     ensures { SearchIsNotDetermined }
+{}
+
+/// Nor is what a list of calls is answered a function of the calls, the limits and the seed, as long as the lists leave that open.
+pub fn serial_is_no_function()
+    ensures { SerialIsNoFunction }
 {}

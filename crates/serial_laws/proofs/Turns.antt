@@ -58,13 +58,13 @@ by-append : (s : Setting) (m : Configuration) (xs ys : List Act) → configurati
 by-append s m [] ys = refl
 by-append s m (act ∷ xs) ys = by-append s (after s m (by_zero act)) xs ys
 
-moments_by-append : (s : Setting) (m : Configuration) (xs ys : List Act) → moments_by s m (xs ++ ys) ≡ moments_by s m xs ++ moments_by s (configuration_by s m xs) ys
+pub moments_by-append : (s : Setting) (m : Configuration) (xs ys : List Act) → moments_by s m (xs ++ ys) ≡ moments_by s m xs ++ moments_by s (configuration_by s m xs) ys
 moments_by-append s m [] ys = refl
 moments_by-append s m (act ∷ xs) ys =
     ap (λ (l : List Moment). record { before = m; act = act } ∷ l) (moments_by-append s (after s m (by_zero act)) xs ys)
 
 -- one call that no depth answers is all that is asked
-asks_one : (One : Call → Reply → List Moment → Type 0) (call : Call) (reply : Reply) (xs : List Moment) → ((depth : ℕ) → by_depth depth call ≡ None) → One call reply xs → IsAsked One call (reply ∷ []) xs
+pub asks_one : (One : Call → Reply → List Moment → Type 0) (call : Call) (reply : Reply) (xs : List Moment) → ((depth : ℕ) → by_depth depth call ≡ None) → One call reply xs → IsAsked One call (reply ∷ []) xs
 asks_one One (calls.WalkNext from) reply xs h k = let e : Some replies.NotLocked ≡ None = h 0 in absurd (let z : ⊥ = cc in z)
 asks_one One call reply xs h k = (reply, refl, k)
 
