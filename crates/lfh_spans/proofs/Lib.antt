@@ -9,3 +9,4 @@ pub mod Drawn
 pub mod Installed
 pub mod Refusing
 pub mod Missing
+pub mod Lowest

@@ -4,10 +4,10 @@ ghost use Rattle.heap_model.specs.Buckets.{block_count};
 ghost use Rattle.heap_model.specs.Search.{first_of, spans_of};
 ghost use Rattle.backend_fit.specs.Kept.{area_of};
 ghost use Rattle.lfh_buckets.specs.Blocks.{IsBucket};
-ghost use Rattle.lfh_spans.specs.Subsegments.{drawn_block};
+ghost use Rattle.lfh_spans.specs.Subsegments.{drawn_block, is_mark_of};
 
 use backend_fit::Back;
-use heap_model::{Kind, WORD_BITS};
+use heap_model::{Kind, Mark, WORD_BITS};
 use lfh_buckets::{count, valid_bits};
 use random_pick::{Draw, pick};
 
@@ -27,12 +27,24 @@ pub fn lowest(back: &Back, bucket: u8, slot: u32) -> u32
     ensures { result ≡ unwrap_or (first_of (spans_of (area_of back.now) bucket slot)) 0 }
 {
     let descs = back.descs();
+    let end = descs.pages();
     let mut page = 0;
-    while let Some(run) = descs.next_run(page) {
-        if run.mark.kind == Kind::Lfh && run.mark.bucket == bucket && u32::from(run.mark.slot) == slot {
+    while page < end {
+        let run = descs.run_at(page);
+        if is_of(run.mark, bucket, slot) {
             return run.first;
         }
-        page = run.first + run.pages;
+        page += run.pages;
     }
     0
+}
+
+/// Whether a mark is that of a subsegment of a bucket and a slot.
+fn is_of(mark: Mark, bucket: u8, slot: u32) -> bool
+    ensures { result ≡ is_mark_of bucket slot mark }
+{
+    match mark.kind {
+        Kind::Lfh => mark.bucket == bucket && u32::from(mark.slot) == slot,
+        _ => false,
+    }
 }
