@@ -10,3 +10,4 @@ pub mod Installed
 pub mod Refusing
 pub mod Missing
 pub mod Lowest
+pub mod Retired

@@ -51,7 +51,7 @@ pub spans_in_order : (k : Kept) → IsSound k → AreInOrder 0 (area_of k).spans
 spans_in_order k h = in_order k.words 0 (length k.words) (runs_of k.words) h.whole
 
 -- the word of a page of a subsegment is its tag
-tag_in_order : (a : Area) (x : Span) (page : ℕ) → AreInOrder 0 a.spans → IsOneOf x (lfh_spans a) → in_span page x ≡ true → tag_word (lfh_spans a) page ≡ tag_of x
+pub tag_in_order : (a : Area) (x : Span) (page : ℕ) → AreInOrder 0 a.spans → IsOneOf x (lfh_spans a) → in_span page x ≡ true → tag_word (lfh_spans a) page ≡ tag_of x
 tag_in_order a x page order there has =
     let r = find_some (in_span page) (lfh_spans a) x there has in
     let i = in_lfh a.spans r.0 (found_in (in_span page) (lfh_spans a) r.0 r.1) in

@@ -33,7 +33,7 @@ use heap_gate::{Caller, Heap, prepare};
 use heap_model::{Act, Mark, Stands};
 use lfh_buckets::{block_at, pages};
 use random_pick::Draw;
-use search::{lowest, own_block};
+use search::{left_behind, own_block};
 use std::marker::Brand;
 use steps::{Subsegment, hint_by};
 use stores::{clear_tags, give_up, look_hint, look_tag, make, named, put_hint, tag_pages};
@@ -191,6 +191,7 @@ pub fn retire<T: Stands>(heap: &Heap<T>, c: &mut Caller<T>, back: &mut Back, hea
     ensures stands { Standing c.new (stance c.old) }
     ensures back { IsBackOf c.new back.new }
 {
+    c.check();
     let _sound = back.region();
     let tag = look_tag(heap, c, head);
     let bucket = (tag / 256 % 256) as u8;
@@ -204,10 +205,6 @@ pub fn retire<T: Stands>(heap: &Heap<T>, c: &mut Caller<T>, back: &mut Back, hea
         slot,
     };
     clear_tags(heap, c, at);
-    let left = if hint == u64::from(head) {
-        u64::from(lowest(back, bucket, slot))
-    } else {
-        hint
-    };
+    let left = left_behind(back, at, hint);
     give_up(heap, c, at, left);
 }

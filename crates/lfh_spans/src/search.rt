@@ -1,11 +1,12 @@
 //! The block that a draw picks in a new subsegment, and the lowest subsegment of a bucket and a slot.
-ghost use Rattle.std.specs.Prelude.{◌≡◌, ◌<◌, unwrap_or};
+ghost use Rattle.std.specs.Prelude.{◌≡◌, ◌<◌, ◌==◌, unwrap_or, if◌then◌else◌};
 ghost use Rattle.heap_model.specs.Buckets.{block_count};
 ghost use Rattle.heap_model.specs.Search.{first_of, spans_of};
 ghost use Rattle.backend_fit.specs.Kept.{area_of};
 ghost use Rattle.lfh_buckets.specs.Blocks.{IsBucket};
 ghost use Rattle.lfh_spans.specs.Subsegments.{drawn_block, is_mark_of};
 
+use crate::steps::Subsegment;
 use backend_fit::Back;
 use heap_model::{Kind, Mark, WORD_BITS};
 use lfh_buckets::{count, valid_bits};
@@ -22,8 +23,19 @@ pub fn own_block(bucket: u8, draw: Draw) -> u16
     (WORD_BITS * word + u32::from(bit)) as u16
 }
 
+/// The hint behind a subsegment that goes back: as it was, or the lowest one that is left where it named this.
+pub fn left_behind(back: &Back, at: Subsegment, hint: u64) -> u64
+    ensures { result ≡ (if hint == at.head then unwrap_or (first_of (spans_of (area_of back.now) at.bucket at.slot)) 0 else hint) }
+{
+    if hint == u64::from(at.head) {
+        u64::from(lowest(back, at.bucket, at.slot))
+    } else {
+        hint
+    }
+}
+
 /// The first page of the lowest subsegment of a bucket and a slot, or 0.
-pub fn lowest(back: &Back, bucket: u8, slot: u32) -> u32
+fn lowest(back: &Back, bucket: u8, slot: u32) -> u32
     ensures { result ≡ unwrap_or (first_of (spans_of (area_of back.now) bucket slot)) 0 }
 {
     let descs = back.descs();
