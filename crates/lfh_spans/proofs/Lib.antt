@@ -9,3 +9,5 @@ pub mod Drawn
 pub mod Installed
 pub mod Refusing
 pub mod Missing
+pub mod Lowest
+pub mod Retired

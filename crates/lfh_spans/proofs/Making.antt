@@ -1,6 +1,6 @@
 -- A caller behind a step with several entries of its own that open nothing to it: a subsegment made with its first place, and one given up.
-use Rattle.std.proofs.Common.{◌≡◌, ℕ, ◌/◌, ◌==◌, Bool, true, false, List, [], ◌∷◌, Option, Some, None, refl, sym, ap, ◌∙◌, subst, inl, inr, eq-eqb}
-use Rattle.std.specs.Prelude.{nat_lt}
+use Rattle.std.proofs.Common.{◌≡◌, ◌⊎◌, ℕ, ◌/◌, ◌==◌, Bool, true, false, ◌&&◌, List, [], ◌∷◌, ◌++◌, Option, Some, None, refl, sym, ap, ◌∙◌, subst, inl, inr, eq-eqb}
+use Rattle.std.specs.Prelude.{nat_lt, is_some}
 use Rattle.std.specs.List.{AllByRecursion}
 use Rattle.std.proofs.lemmas.Bool.{cases_Bool, and_parts, and_from, false≢true}
 use Rattle.atomic_table.specs.Table.{Me}
@@ -12,7 +12,7 @@ use Rattle.heap_model.specs.declared.Call.{Call}
 use Rattle.heap_model.specs.declared.Entry.{Entry}
 use Rattle.heap_model.specs.declared.Kind.TheVariants as kinds
 use Rattle.heap_model.specs.declared.Layer.TheVariants as layers
-use Rattle.heap_model.specs.State.{Setting, GateAndLocks, holds, is_among, is_caller, is_entered, updated}
+use Rattle.heap_model.specs.State.{Setting, State, GateAndLocks, hands, holds, is_among, is_caller, is_entered, updated}
 use Rattle.heap_model.specs.Buckets.{block_size, block_address}
 use Rattle.heap_model.specs.CallState.{Configuration, CallState, Search, Nothing}
 use Rattle.heap_model.specs.Search.{SearchKey, asked_bucket, after_own_span}
@@ -21,16 +21,20 @@ use Rattle.heap_model.specs.History.{configuration_after, configuration_of, may_
 use Rattle.heap_model.specs.Agreement.{AgreesFor, reveals_nothing}
 use Rattle.heap_model.proofs.GateSound.{row_of}
 use Rattle.heap_model.proofs.Own.{act_agrees}
+use Rattle.claim_rule.specs.declared.views.Owed.{Owed}
 use Rattle.claim_rule.specs.declared.views.View.{View}
 use Rattle.claim_rule.specs.Entries.{IsSettingOf, entry, is_by}
 use Rattle.claim_rule.specs.Rule.{ready_after}
 use Rattle.claim_rule.specs.Plays.{Goes, GoesIn}
-use Rattle.span_steps.specs.Installs.{IsReserving, owed_by_install}
+use Rattle.claim_rule.proofs.Lists.{after-append}
+use Rattle.span_steps.specs.Installs.{making, IsReserving, owed_by_install}
+use Rattle.span_steps.specs.Retires.{owed_by_retire}
 use Rattle.step_parts.specs.InHand.{HasBlock}
-use Rattle.heap_gate.specs.Token.{IsAt, IsCaller, AreOut, SearchMarks, search_marks_from, outs}
+use Rattle.heap_gate.specs.Token.{IsAt, IsCaller, AreOut, SearchMarks, search_mark, search_marks_from, outs}
 use Rattle.heap_gate.specs.Seated.{Face, tok}
-use Rattle.heap_gate.proofs.Standing.{at_prepared}
-use Rattle.heap_gate.proofs.Tokens.{Behind, Acted, acted, faced, marks, moved_by, at_behind, with_left}
+use Rattle.heap_gate.specs.Calls.{Runs}
+use Rattle.heap_gate.proofs.Standing.{at_plain, at_prepared}
+use Rattle.heap_gate.proofs.Tokens.{Behind, IsBehind, Acted, acted, as_was, faced, marks, moved_by, at_behind, with_left, same_in_hand}
 use Rattle.lfh_spans.specs.Stores.{HasMade, reserving_in, made_with}
 
 ---- Entries that open nothing
@@ -156,4 +160,32 @@ module _ {T : Type 0} (z : TableId) (me : Me (Option T) View) (f : Face) (slot :
           (λ s q. closed_agrees s f.number me.0 me'.0 f.prepared deeds (go.goes s q) (made_closed f.number reserved first pages b t i));
       block = with_left z me f slot stream h me' left le (λ s m. HasBlock m f.number b (block_address b first i)) tells;
       stands = is_made.stands;
+    }
+
+  module _ (first pages b t : ℕ) (owes : me'.0.owes ≡ owed_by_retire b t first pages me.0.owes) (go : Goes f.number me.0 me'.0 f.prepared (entry f.number (acts.Unspan first) ∷ [])) where
+    abbrev deed : List Entry
+    deed = entry f.number (acts.Unspan first) ∷ []
+
+    closed : AreClosed f.number (entry f.number (acts.Unspan first) ∷ [])
+    closed = ((refl, λ m. refl), tt)
+
+    pub is_given_up : Acted z me f slot stream h me' z' left (entry f.number (acts.Unspan first) ∷ []) (as_was z me f slot stream h) (owed_by_retire b t first pages me.0.owes)
+    is_given_up = acted z me f slot stream h w me' deed (moved_by z me f slot stream h me'.0 deed (closed_by f.number deed closed) go) z' left ez le (as_was z me f slot stream h) (record {
+      slots = subst AreOut (sym slots) h.slots;
+      out_is = ap outs slots;
+      at = at_behind z me f slot stream h me'.0 deed (closed_by f.number deed closed) go (λ m. IsAt m f.number f.call f.fresh f.inside f.depth (outs me.1) true f.free)
+          (λ s m a. at_plain s m f.number f.call f.fresh f.inside f.depth (outs me.1) f.whole f.free (acts.Unspan first) refl refl refl refl a);
+      marks_are = refl;
+      made_is = refl;
+      rests = h.even.rests;
+      drawn = h.even.drawn;
+    }) (owed_by_retire b t first pages me.0.owes) owes
+
+    pub gives_up : Runs (tok z me f) (tok z' me' (faced z me f slot stream h (as_was z me f slot stream h) left)) (entry f.number (acts.Unspan first) ∷ [])
+    gives_up = record {
+      does = is_given_up.does;
+      agrees = with_left z me f slot stream h me' left le (λ s m. AgreesFor f.number m (configuration_after s (ready_after s me.0 f.prepared) deed))
+          (λ s q. closed_agrees s f.number me.0 me'.0 f.prepared deed (go.goes s q) closed);
+      hands = with_left z me f slot stream h me' left le (λ s m. hands m.state f.number ≡ hands (ready_after s me.0 f.prepared).state f.number)
+          (λ s q. same_in_hand s f.number me.0 me'.0 f.prepared deed (go.goes s q) (λ m. refl));
     }

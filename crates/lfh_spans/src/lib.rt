@@ -1,21 +1,27 @@
-//! Subsegments of the low-fragmentation front end: their hints, and how the holder of the back end's lock makes one.
+//! Subsegments of the low-fragmentation front end: their hints, and how the holder of the back end's lock makes one or gives one
+//! back.
 //!
 //! A hint is the first page of a subsegment of a bucket and a slot, from which searches begin. A new subsegment is shown by the
-//! exchange that claims its first block, and then its tags and its hint are stored. All words of a subsegment are stored under
-//! the back end's lock.
+//! exchange that claims its first block, and then its tags and its hint are stored; a subsegment that goes back has its tags
+//! cleared before the hint moves on. All words of a subsegment are stored under the back end's lock.
 #![tactic(auto)]
 
-mod search;
-mod steps;
 mod stores;
+mod steps;
+mod search;
 
-ghost use Rattle.std.specs.Prelude.{◌≡◌, ◌<◌, [], true, false, length, IfSome, IfNone};
-ghost use Rattle.heap_model.specs.declared.Act.TheVariants.{NoSpan};
+ghost use Rattle.std.specs.Prelude.{◌≡◌, ◌+◌, ◌*◌, ◌<◌, ◌≤◌, ◌∷◌, [], true, false, length, IfSome, IfNone};
+ghost use Rattle.heap_model.specs.declared.Act.TheVariants.{NoSpan, Unspan};
+ghost use Rattle.heap_model.specs.declared.Kind.TheVariants as kinds;
 ghost use Rattle.heap_model.specs.declared.What.TheVariants as whats;
+ghost use Rattle.heap_model.specs.Legal.{may};
+ghost use Rattle.heap_model.specs.Search.{span_at};
+ghost use Rattle.claim_rule.specs.Entries.{entry};
 ghost use Rattle.claim_rule.specs.Places.{hint_at};
 ghost use Rattle.claim_rule.specs.Shown.{hint_word};
 ghost use Rattle.block_steps.specs.Searches.{MayHint};
 ghost use Rattle.span_steps.specs.Stores.{paid_off};
+ghost use Rattle.backend_fit.specs.Kept.{area_of};
 ghost use Rattle.lfh_buckets.specs.Blocks.{IsBucket};
 ghost use Rattle.heap_gate.specs.Token.{Always, now, is_out};
 ghost use Rattle.heap_gate.specs.Calls.{Runs, Stands as Standing, stance, with_prepared};
@@ -27,10 +33,10 @@ use heap_gate::{Caller, Heap, prepare};
 use heap_model::{Act, Mark, Stands};
 use lfh_buckets::{block_at, pages};
 use random_pick::Draw;
-use search::own_block;
+use search::{left_behind, own_block};
 use std::marker::Brand;
 use steps::{Subsegment, hint_by};
-use stores::{look_hint, make, named, put_hint, tag_pages};
+use stores::{clear_tags, give_up, look_hint, look_tag, make, named, put_hint, tag_pages};
 use table_words::hint_at;
 
 /// The hint of a bucket and of the caller's slot, with which a search of the caller begins. `None` exactly where the word that
@@ -169,4 +175,36 @@ pub fn install_again<T: Stands>(
     tag_pages(heap, c, at);
     put_hint(heap, c, bucket, slot, head);
     Some(block_at(bucket, head, index))
+}
+
+/// Gives a subsegment without a set bit back, for the owner of the heap lock who has taken the back end's: clears its tags, moves
+/// the hint to the lowest subsegment of its bucket and slot that is left, or to 0, where it named this one, and frees its pages.
+pub fn retire<T: Stands>(heap: &Heap<T>, c: &mut Caller<T>, back: &mut Back, head: u32)
+    requires table { (c.old.table ≡ heap.now.table) × (c.old.opening ≡ heap.now.opening) }
+    requires whole { c.old.whole ≡ true }
+    requires held { is_out whats.Back c.old.out ≡ true }
+    requires paid { c.old.owes ≡ [] }
+    requires back { IsBackOf c.old back.old }
+    requires span { IfSome (span_at (area_of back.old) head) (λ x. x.kind ≡ kinds.Lfh) }
+    requires may { Always c.old (λ s. may s (now s c.old) c.old.number (Unspan head) ≡ true) }
+    ensures runs { Runs c.old c.new (entry c.old.number (Unspan head) ∷ []) }
+    ensures stands { Standing c.new (stance c.old) }
+    ensures back { IsBackOf c.new back.new }
+{
+    c.check();
+    let _sound = back.region();
+    let tag = look_tag(heap, c, head);
+    let bucket = (tag / 256 % 256) as u8;
+    let slot = (tag / 65536 % 65536) as u32;
+    let hint = look_hint(heap, c, bucket, slot);
+    let pages = back.give(head);
+    let at = Subsegment {
+        head,
+        pages,
+        bucket,
+        slot,
+    };
+    clear_tags(heap, c, at);
+    let left = left_behind(back, at, hint);
+    give_up(heap, c, at, left);
 }

@@ -10,16 +10,17 @@ ghost use Rattle.claim_rule.specs.Plays.{number_of};
 ghost use Rattle.claim_rule.specs.Rule.{IsReady, ready_after};
 ghost use Rattle.claim_rule.specs.Shown.{lfh_spans, tag_word, hint_word};
 ghost use Rattle.block_steps.specs.Searches.{MayHint, hinted};
-ghost use Rattle.look_steps.specs.Looks.{looked_hint};
+ghost use Rattle.look_steps.specs.Looks.{looked_hint, looked_tag};
 ghost use Rattle.span_steps.specs.Installs.{IsReserving, MayInstall, installed};
-ghost use Rattle.span_steps.specs.Stores.{paid_off, put_word};
+ghost use Rattle.span_steps.specs.Retires.{MayRetire, retired};
+ghost use Rattle.span_steps.specs.Stores.{owed_zero, paid_off, put_word};
 
 use block_steps::steps::hint_as;
 use claim_rule::Carried;
 use heap_gate::Prepared;
 use heap_model::Stands;
-use look_steps::steps::look_hint_as;
-use span_steps::steps::{install_as, put_hint_as, put_tag_as};
+use look_steps::steps::{look_hint_as, look_tag_as};
+use span_steps::steps::{clear_tag_as, install_as, put_hint_as, put_tag_as, retire_as};
 use step_parts::{Seating, Table, Target};
 
 /// A subsegment that a step is about: its pages, its bucket and slot.
@@ -68,6 +69,23 @@ pub(crate) fn look_hint_by<T: Stands, B: Target, E: Carried>(
     look_hint_as::<T, B, E>(top, place, word)
 }
 
+pub(crate) fn look_tag_by<T: Stands, B: Target, E: Carried>(
+    top: &Table<T>,
+    place: &mut Seating<T>,
+    _prepared: &Prepared,
+    _page: u32,
+    word: usize,
+) -> u64
+    requires table { (place.old.table_id ≡ top.now.table_id) × (word < top.now.table_id.words) }
+    requires word { word ≡ tag_at B.number }
+    requires part { B.number < 256 * top.now.key.limits.segments }
+    requires ready { IsReady (number_of place.old.me.0.role) place.old.me.0 E.entries }
+    ensures table { place.new.table_id ≡ place.old.table_id }
+    ensures told { looked_tag E.entries B.number (step top.now.table_id.slots word 0 0 none) place.old.me result place.new.me }
+{
+    look_tag_as::<T, B, E>(top, place, word)
+}
+
 pub(crate) fn put_hint_by<T: Stands, B: Target, E: Carried>(
     top: &Table<T>,
     place: &mut Seating<T>,
@@ -107,6 +125,24 @@ pub(crate) fn put_tag_by<T: Stands, B: Target, E: Carried>(
     put_tag_as::<T, B, E>(top, place, word, value);
 }
 
+pub(crate) fn clear_tag_by<T: Stands, B: Target, E: Carried>(
+    top: &Table<T>,
+    place: &mut Seating<T>,
+    _prepared: &Prepared,
+    _page: u32,
+    word: usize,
+)
+    requires table { (place.old.table_id ≡ top.now.table_id) × (word < top.now.table_id.words) }
+    requires word { word ≡ tag_at B.number }
+    requires page { B.number < 256 * top.now.key.limits.segments }
+    requires ready { IsReady (number_of place.old.me.0.role) place.old.me.0 E.entries }
+    requires may { (s : Setting) → IsSettingOf place.old.me.0.opening place.old.me.0.roll s → holds (ready_after s place.old.me.0 E.entries).state.gate (number_of place.old.me.0.role) whats.Back ≡ true }
+    ensures table { place.new.table_id ≡ place.old.table_id }
+    ensures told { put_word E.entries (owed_zero (tag_at B.number)) (step top.now.table_id.slots word 0 0 none) place.old.me 0 place.new.me }
+{
+    clear_tag_as::<T, B, E>(top, place, word);
+}
+
 pub(crate) fn install_by<T: Stands, B: Target, R: Carried, E: Carried>(
     top: &Table<T>,
     place: &mut Seating<T>,
@@ -130,4 +166,23 @@ pub(crate) fn install_by<T: Stands, B: Target, R: Carried, E: Carried>(
     ensures told { installed E.entries R.entries B.head B.number B.bucket B.slot B.index B.hint (step top.now.table_id.slots word bit 0 none) place.old.me result place.new.me }
 {
     install_as::<T, B, R, E>(top, place, word, bit)
+}
+
+pub(crate) fn retire_by<T: Stands, B: Target, E: Carried>(
+    top: &Table<T>,
+    place: &mut Seating<T>,
+    _prepared: &Prepared,
+    _subsegment: Subsegment,
+    word: usize,
+    value: u64,
+)
+    requires table { (place.old.table_id ≡ top.now.table_id) × (word < top.now.table_id.words) }
+    requires word { word ≡ hint_at B.bucket B.slot }
+    requires bucket { (1 ≤ B.bucket) × (B.bucket ≤ 128) × (B.slot < 16) }
+    requires ready { IsReady (number_of place.old.me.0.role) place.old.me.0 E.entries }
+    requires may { (s : Setting) → IsSettingOf place.old.me.0.opening place.old.me.0.roll s → MayRetire s (ready_after s place.old.me.0 E.entries) (number_of place.old.me.0.role) B.head B.number B.bucket B.slot value place.old.me.0.owes }
+    ensures table { place.new.table_id ≡ place.old.table_id }
+    ensures told { retired E.entries B.head B.number B.bucket B.slot (step top.now.table_id.slots word value 0 none) place.old.me value place.new.me }
+{
+    retire_as::<T, B, E>(top, place, word, value);
 }

@@ -1,17 +1,25 @@
-//! Steps of a caller on words of subsegments, each or all of a kind: a word looked at, tags stored, a subsegment made.
-ghost use Rattle.std.specs.Prelude.{◌≡◌, ◌+◌, ◌*◌, ◌<◌, ◌≤◌, [], true, false, length, Some, None, if◌then◌else◌, ◌==◌};
+//! Steps of a caller on words of subsegments, each or all of a kind: a word looked at, tags stored and cleared, a subsegment made
+//! and given up.
+ghost use Rattle.std.specs.Prelude.{◌≡◌, ◌+◌, ◌*◌, ◌<◌, ◌≤◌, ◌∷◌, ◌++◌, [], true, false, length, Some, None, if◌then◌else◌, ◌==◌};
+ghost use Rattle.heap_model.specs.declared.Act.TheVariants.{Unspan};
 ghost use Rattle.heap_model.specs.declared.What.TheVariants as whats;
+ghost use Rattle.claim_rule.specs.Entries.{entry};
 ghost use Rattle.claim_rule.specs.Places.{hint_at, tag_at};
-ghost use Rattle.look_steps.specs.Looks.{IsHintWord};
-ghost use Rattle.span_steps.specs.Installs.{MayInstall};
-ghost use Rattle.span_steps.specs.Stores.{paid_off};
+ghost use Rattle.look_steps.specs.Looks.{IsHintWord, IsTagWord};
+ghost use Rattle.span_steps.specs.Installs.{MayInstall, owed_by_install, owed_tags};
+ghost use Rattle.span_steps.specs.Retires.{MayRetire, owed_by_retire};
+ghost use Rattle.span_steps.specs.Stores.{owed_zero, paid_off};
+ghost use Rattle.step_parts.specs.InHand.{HasBlock};
 ghost use Rattle.claim_rule.specs.Shown.{hint_word};
 ghost use Rattle.lfh_buckets.specs.Blocks.{IsBucket};
+ghost use Rattle.heap_model.specs.Buckets.{block_address, block_count};
 ghost use Rattle.heap_gate.specs.Token.{Always, now, is_out};
 ghost use Rattle.heap_gate.specs.Calls.{Runs, Stands as Standing, stance};
 ghost use Rattle.lfh_spans.specs.Stores.{AreTagged, HasMade, paid_tags, reserving_in};
 
-use crate::steps::{Subsegment, install_by, look_hint_by, put_hint_by, put_tag_by};
+use crate::steps::{
+    Subsegment, clear_tag_by, install_by, look_hint_by, look_tag_by, put_hint_by, put_tag_by, retire_by,
+};
 use heap_gate::{Caller, Heap};
 use heap_model::Stands;
 use std::marker::Brand;
@@ -76,6 +84,23 @@ pub fn put_hint<T: Stands>(heap: &Heap<T>, c: &mut Caller<T>, bucket: u8, slot: 
     );
     c.prepared.clear();
     c.pending = false;
+}
+
+/// Loads the tag of a page.
+pub fn look_tag<T: Stands>(heap: &Heap<T>, c: &mut Caller<T>, page: u32) -> u64
+    requires table { (c.old.table ≡ heap.now.table) × (c.old.opening ≡ heap.now.opening) }
+    requires whole { c.old.whole ≡ true }
+    requires page { page < 256 * c.old.opening.limits.segments }
+    ensures runs { Runs c.old c.new [] }
+    ensures stands { Standing c.new (stance c.old) }
+    ensures word { Always c.new (λ s. IsTagWord (now s c.new) c.old.number page c.old.owes result) }
+{
+    let limits = heap.limits();
+    let at = tag_at(&limits, page) as usize;
+    let word = look_tag_by::<T, Brand, Brand>(&heap.table.shared, &mut c.place, &c.prepared, page, at);
+    c.prepared.clear();
+    c.pending = false;
+    word
 }
 
 /// Makes a subsegment with the claim of its first block: its tags and its hint are owed then.
@@ -154,4 +179,53 @@ pub fn tag_pages<T: Stands>(heap: &Heap<T>, c: &mut Caller<T>, at: Subsegment)
         let page = at.head + (at.pages - 1 - done);
         put_tag(heap, c, page, tag);
     }
+}
+
+/// Clears the tag of a page.
+fn clear_tag<T: Stands>(heap: &Heap<T>, c: &mut Caller<T>, page: u32)
+    requires table { (c.old.table ≡ heap.now.table) × (c.old.opening ≡ heap.now.opening) }
+    requires whole { c.old.whole ≡ true }
+    requires held { is_out whats.Back c.old.out ≡ true }
+    requires page { page < 256 * c.old.opening.limits.segments }
+    ensures runs { Runs c.old c.new [] }
+    ensures stands { Standing c.new (record (stance c.old) { owes = owed_zero (tag_at page) c.old.owes }) }
+{
+    let limits = heap.limits();
+    let at = tag_at(&limits, page) as usize;
+    clear_tag_by::<T, Brand, Brand>(&heap.table.shared, &mut c.place, &c.prepared, page, at);
+    c.prepared.clear();
+    c.pending = false;
+}
+
+/// Clears the tags of a subsegment's pages, from the first on.
+pub fn clear_tags<T: Stands>(heap: &Heap<T>, c: &mut Caller<T>, at: Subsegment)
+    requires table { (c.old.table ≡ heap.now.table) × (c.old.opening ≡ heap.now.opening) }
+    requires whole { c.old.whole ≡ true }
+    requires ready { (c.old.pending ≡ false) × (c.old.prepared ≡ []) }
+    requires held { is_out whats.Back c.old.out ≡ true }
+    requires few { at.head + at.pages ≤ 256 * c.old.opening.limits.segments }
+    ensures runs { Runs c.old c.new [] }
+    ensures stands { Standing c.new (record (stance c.old) { owes = owed_tags at.head at.pages c.old.owes }) }
+{
+    c.check();
+    let _bounds = heap.limits();
+    for done in 0..at.pages {
+        clear_tag(heap, c, at.head + done);
+    }
+}
+
+/// Gives up a subsegment whose tags are cleared, with the store of the hint.
+pub fn give_up<T: Stands>(heap: &Heap<T>, c: &mut Caller<T>, at: Subsegment, hint: u64)
+    requires table { (c.old.table ≡ heap.now.table) × (c.old.opening ≡ heap.now.opening) }
+    requires whole { c.old.whole ≡ true }
+    requires bucket { IsBucket at.bucket }
+    requires slot { at.slot < 16 }
+    requires may { Always c.old (λ s. MayRetire s (now s c.old) c.old.number at.head at.pages at.bucket at.slot hint c.old.owes) }
+    ensures runs { Runs c.old c.new (entry c.old.number (Unspan at.head) ∷ []) }
+    ensures stands { Standing c.new (record (stance c.old) { owes = owed_by_retire at.bucket at.slot at.head at.pages c.old.owes }) }
+{
+    let word = hint_at(at.bucket, at.slot as u8) as usize;
+    retire_by::<T, Brand, Brand>(&heap.table.shared, &mut c.place, &c.prepared, at, word, hint);
+    c.prepared.clear();
+    c.pending = false;
 }

@@ -1,0 +1,51 @@
+use Rattle.std.proofs.Common.{◌≡◌, ℕ, ◌∙◌, true, List, [], ◌∷◌, sym, subst, ap, arith}
+use Rattle.random_pick.specs.CallerDraws.{words_of}
+use Rattle.claim_rule.specs.declared.views.Owed.{Owed}
+use Rattle.claim_rule.specs.Places.{tag_at, hint_at}
+use Rattle.claim_rule.specs.Rule.{ready_after}
+use Rattle.claim_rule.specs.Shown.{lfh_spans, tag_word, hint_word}
+use Rattle.heap_model.specs.State.{Setting, holds}
+use Rattle.heap_model.specs.CallState.{Configuration}
+use Rattle.heap_model.specs.declared.What.TheVariants as whats
+use Rattle.heap_gate.specs.Token.{Token, Always, now, outs, is_out}
+use Rattle.heap_gate.specs.Seated.{Face, tok}
+use Rattle.heap_gate.specs.Calls.{Runs, Stands, stance}
+use Rattle.heap_gate.proofs.Tokens.{as_was, faced, goes_by, may_by, with_left}
+use Rattle.span_steps.specs.Stores.{paid_off, owed_zero}
+use Rattle.lfh_spans.specs.Stores.{AreTagged}
+use Rattle.lfh_spans.specs.Hints.{own_slot}
+use Rattle.claim_rule.specs.Plays.{number_of}
+use Rattle.heap_model.specs.History.{configuration_of}
+use Rattle.look_steps.specs.Looks.{IsHintWord, IsTagWord}
+use Rattle.lfh_spans.proofs.Quiet.{quiet, quiet_runs, has_back}
+use Rattle.lfh_spans.proofs.stores.clear_tag.Goals as goal
+
+pub clear_tag_by-requires-clause-may : goal.clear_tag_by-requires-clause-may
+clear_tag_by-requires-clause-may g c =
+    let i = c.c.inside in let f : Face = record { number = i.number; prepared = i.prepared.items; pending = i.pending; call = i.call; fresh = i.fresh; locked = i.locked; inside = i.inside; depth = i.depth; whole = i.whole; free = i.free; drawn = i.drawn } in let h = c.c.invariant in let z = i.place.table_id in let me = i.place.me in let stream = words_of i.draws in let v = c.c.view_is in
+    let o = ap (λ (t : Token). is_out whats.Back t.out) v ∙ c.requires.held in
+    may_by z me f i.slot stream h (λ m n. holds m.state.gate n whats.Back ≡ true) (λ s q. has_back z me f i.slot stream h o s q)
+
+pub invariant_of-c : goal.invariant_of-c
+invariant_of-c g c =
+    let i = c.c.inside in let f : Face = record { number = i.number; prepared = i.prepared.items; pending = i.pending; call = i.call; fresh = i.fresh; locked = i.locked; inside = i.inside; depth = i.depth; whole = i.whole; free = i.free; drawn = i.drawn } in let h = c.c.invariant in let z = i.place.table_id in let me = i.place.me in let stream = words_of i.draws in let v = c.c.view_is in
+    let p = c.clear_tag_by.new.place in let told = c.clear_tag_by.ensures.told in
+    let w = ap (λ (t : Token). t.whole) v ∙ c.requires.whole in
+    let go = goes_by z me f i.slot stream h p.me.0 (λ n. []) told.goes in
+    (quiet z me f i.slot stream h w p.me told.slot (owed_zero (tag_at c.args.page) me.0.owes) told.owes p.table_id c.clear_tag_by.ensures.table c.clear.new.self.items c.clear.ensures go).caller
+
+pub returns-clause-runs : goal.returns-clause-runs
+returns-clause-runs g c =
+    let i = c.c.inside in let f : Face = record { number = i.number; prepared = i.prepared.items; pending = i.pending; call = i.call; fresh = i.fresh; locked = i.locked; inside = i.inside; depth = i.depth; whole = i.whole; free = i.free; drawn = i.drawn } in let h = c.c.invariant in let z = i.place.table_id in let me = i.place.me in let stream = words_of i.draws in let v = c.c.view_is in
+    let p = c.clear_tag_by.new.place in let told = c.clear_tag_by.ensures.told in
+    let w = ap (λ (t : Token). t.whole) v ∙ c.requires.whole in
+    let go = goes_by z me f i.slot stream h p.me.0 (λ n. []) told.goes in
+    subst (λ (t : Token). Runs t (tok p.table_id p.me (faced z me f i.slot stream h (as_was z me f i.slot stream h) c.clear.new.self.items)) []) v (quiet_runs z me f i.slot stream h w p.me told.slot (owed_zero (tag_at c.args.page) me.0.owes) told.owes p.table_id c.clear_tag_by.ensures.table c.clear.new.self.items c.clear.ensures go)
+
+pub returns-clause-stands : goal.returns-clause-stands
+returns-clause-stands g c =
+    let i = c.c.inside in let f : Face = record { number = i.number; prepared = i.prepared.items; pending = i.pending; call = i.call; fresh = i.fresh; locked = i.locked; inside = i.inside; depth = i.depth; whole = i.whole; free = i.free; drawn = i.drawn } in let h = c.c.invariant in let z = i.place.table_id in let me = i.place.me in let stream = words_of i.draws in let v = c.c.view_is in
+    let p = c.clear_tag_by.new.place in let told = c.clear_tag_by.ensures.told in
+    let w = ap (λ (t : Token). t.whole) v ∙ c.requires.whole in
+    let go = goes_by z me f i.slot stream h p.me.0 (λ n. []) told.goes in
+    subst (λ (t : Token). Stands (tok p.table_id p.me (faced z me f i.slot stream h (as_was z me f i.slot stream h) c.clear.new.self.items)) (record (stance t) { owes = owed_zero (tag_at c.args.page) t.owes })) v (quiet z me f i.slot stream h w p.me told.slot (owed_zero (tag_at c.args.page) me.0.owes) told.owes p.table_id c.clear_tag_by.ensures.table c.clear.new.self.items c.clear.ensures go).stands
