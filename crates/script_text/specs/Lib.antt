@@ -16,3 +16,4 @@ pub mod Values
 pub mod Seen
 pub mod Generator
 pub mod Drawing
+pub mod Calls
