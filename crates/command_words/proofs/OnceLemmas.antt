@@ -1,10 +1,9 @@
 -- Options of which none is given twice.
-use Rattle.std.proofs.Common.{◌≡◌, ℕ, Bool, true, false, not, ◌&&◌, ◌||◌, List, [], ◌∷◌, ◌++◌, refl, sym, ap, ◌∙◌}
-use Rattle.std.specs.List.{list_any}
+use Rattle.std.proofs.Common.{◌≡◌, ℕ, Bool, true, false, not, ◌||◌, List, [], ◌∷◌, ◌++◌, refl, sym, ap, ◌∙◌}
 use Rattle.std.specs.Str.{bytes_eq}
-use Rattle.std.proofs.lemmas.Bool.{cases_Bool, and_parts}
+use Rattle.std.proofs.lemmas.Bool.{and_parts}
 use Rattle.std.proofs.lemmas.List.Folds.{list_any-append}
-use Rattle.script_text.proofs.NameLemmas.{bytes_back, or_false, bytes_same}
+use Rattle.script_text.proofs.NameLemmas.{bytes_back, or_false}
 use Rattle.command_words.specs.Options.{Given, is_given, are_once}
 
 given_pushed : (name : List ℕ) (gs : List Given) (g : Given) → is_given name (gs ++ g ∷ []) ≡ (is_given name gs || bytes_eq g.name name)

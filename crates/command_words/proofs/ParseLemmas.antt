@@ -1,16 +1,16 @@
 -- The parse of a whole list of words.
-use Rattle.std.proofs.Common.{◌≤◌, arith, ◌≡◌, ℕ, zero, suc, Bool, true, false, not, ◌&&◌, ◌||◌, cond, List, [], ◌∷◌, ◌++◌, length, map, Option, Some, None, option_map, refl, sym, ap, ◌∙◌, subst, inl, inr, ◌⊎◌}
-use Rattle.std.specs.Prelude.{fold, codes, IfNone}
-use Rattle.std.specs.List.{list_any, list_all, find}
+use Rattle.std.proofs.Common.{◌≤◌, arith, ◌≡◌, Bool, true, false, not, ◌&&◌, List, [], ◌∷◌, length, Option, Some, None, refl, sym, ap, ◌∙◌, subst, inl, inr}
+use Rattle.std.specs.Prelude.{fold, IfNone}
+use Rattle.std.specs.List.{list_any, list_all}
 use Rattle.std.specs.Str.{bytes_eq}
 use Rattle.std.proofs.lemmas.Bool.{cases_Bool}
-use Rattle.clap.specs.Walk.{Row, Rule, Text, Held, Walk, idle, settled, has_row, with_default, default_rows, nothing_held, finished, first_of, rows_after, walk}
-use Rattle.clap.specs.Simple.{App, Shape, built, new_app, new_rule, with_rule, on_top, matches_of, is_simple}
-use Rattle.clap.specs.Faults.{settle_fault, walk_fault, defaults_fault, check_fault, level_fault, built_fault, fault_of, is_simple_and_free}
+use Rattle.clap.specs.Walk.{Row, Rule, Text, Held, idle, settled, has_row, with_default, nothing_held, finished, first_of, rows_after}
+use Rattle.clap.specs.Simple.{App, built, matches_of, is_simple}
+use Rattle.clap.specs.Faults.{defaults_fault, check_fault, level_fault, built_fault, fault_of, is_simple_and_free}
 use Rattle.clap.specs.Kinds.{Kinds, or_else, check_kinds}
 use Rattle.clap.specs.Takes.{is_given as is_given_row}
 use Rattle.clap.proofs.FaultLemmas.{leaf_fault}
-use Rattle.command_words.specs.Command.{app, row_given, rows_given}
+use Rattle.command_words.specs.Command.{app, rows_given}
 use Rattle.command_words.specs.Options.{Given, AreOptions, text_of, is_ready}
 use Rattle.clap.specs.declared.error.Error.{Error}
 use Rattle.clap.specs.declared.error.kind.ErrorKind.TheVariants as kinds
@@ -20,10 +20,9 @@ use Rattle.command_words.specs.declared.setting.Values.{Values}
 use Rattle.command_words.specs.Told.{AreTold, text_in}
 use Rattle.command_words.proofs.SpellLemmas.{one_spelling}
 use Rattle.command_words.specs.Settings.{names, setting_by, setting_given, AreWords}
-use Rattle.command_words.proofs.WordLemmas.{is_name}
-use Rattle.command_words.proofs.WalkLemmas.{option_rule, rules_of, walk_at, shape_with, held_open, Holds}
-use Rattle.command_words.proofs.ReadLemmas.{or_else_nil, Reads, reads_all, settles, settles_once, end_of}
-use Rattle.command_words.proofs.TakeLemmas.{AreTaken, takes_all}
+use Rattle.command_words.proofs.WalkLemmas.{option_rule, rules_of, walk_at, shape_with, Holds}
+use Rattle.command_words.proofs.ReadLemmas.{or_else_nil, reads_all, settles, settles_once, end_of}
+use Rattle.command_words.proofs.TakeLemmas.{takes_all}
 
 ---- The command
 
@@ -126,7 +125,7 @@ pub sets_nothing : (words : List Text) (given : List Given) (v : Values) (o : Op
 sets_nothing words given v (Some x) options told is = tt
 sets_nothing words given v None options told is = λ setting valid.
     let set : None ≡ setting_given given =
-        is ∙ (λ i. setting_by (told.mode i) (told.segments i) (told.large i) (told.slots i) (told.seed i) (told.count i)) in
+    is ∙ (λ i. setting_by (told.mode i) (told.segments i) (told.large i) (told.slots i) (told.seed i) (told.count i)) in
     let same = one_spelling names refl given valid.given words options.known valid.options.known options.spelled valid.options.spelled in
     let e : None ≡ Some setting = set ∙ (ap setting_given same ∙ valid.sets) in
     (let z : ⊥ = cc in z)

@@ -1,19 +1,19 @@
 -- Words that a parse takes are options of the command.
-use Rattle.std.proofs.Common.{◌≡◌, ℕ, zero, suc, ◌+◌, ◌<◌, ◌≤◌, Bool, true, false, not, ◌&&◌, ◌||◌, cond, List, [], ◌∷◌, ◌++◌, length, map, Option, Some, None, refl, sym, ap, ◌∙◌, subst, arith, inl, inr, ◌⊎◌, append-nil, append_assoc}
-use Rattle.std.specs.Prelude.{fold, is_some}
-use Rattle.std.specs.List.{list_any, list_all}
+use Rattle.std.proofs.Common.{◌≡◌, ℕ, zero, suc, ◌≤◌, Bool, true, false, cond, List, [], ◌∷◌, ◌++◌, length, Option, Some, None, refl, sym, ap, ◌∙◌, subst, arith, inl, inr, ◌⊎◌, append-nil, append_assoc}
+use Rattle.std.specs.Prelude.{fold}
+use Rattle.std.specs.List.{list_all}
 use Rattle.std.specs.Str.{bytes_eq}
 use Rattle.std.proofs.lemmas.Bool.{cases_Bool, and_parts}
-use Rattle.clap.specs.Lexer.{long_of, short_of}
-use Rattle.clap.specs.Walk.{Row, Rule, Text, Held, Walk, idle, option, settled, walked, reacted, used}
+use Rattle.clap.specs.Lexer.{long_of}
+use Rattle.clap.specs.Walk.{Row, Text, Held, Walk, idle, option, settled, walked, reacted, used}
 use Rattle.clap.specs.Faults.{settle_fault, turn_fault, walk_fault, use_fault}
 use Rattle.clap.specs.Kinds.{Kinds, or_else}
 use Rattle.clap.specs.declared.error.kind.ErrorKind.TheVariants as kind
-use Rattle.command_words.specs.Command.{row_given, rows_given}
+use Rattle.command_words.specs.Command.{rows_given}
 use Rattle.command_words.specs.Options.{Given, IsSpelled, is_given, are_once, are_among, dashed, begins_dash, is_ready}
-use Rattle.command_words.proofs.WordLemmas.{ready_no_end, ready_no_dash, no_dash_no_short, no_dash_no_long, long_back}
+use Rattle.command_words.proofs.WordLemmas.{ready_no_end, ready_no_dash, no_dash_no_short, long_back}
 use Rattle.command_words.proofs.OnceLemmas.{once_added}
-use Rattle.command_words.proofs.WalkLemmas.{option_rule, rules_of, is_known, row_added, use_fault_is, walk_at, shape_with, held_open, held_closed, held_waiting, joined_fault, joined_walk, apart_fault, apart_walk, unknown_fault, plain_fault, wants_value, value_fault, value_walk, flag_fault, Holds, closed_settles, closed_settled}
+use Rattle.command_words.proofs.WalkLemmas.{option_rule, rules_of, is_known, row_added, use_fault_is, walk_at, shape_with, held_open, held_closed, held_waiting, joined_fault, joined_walk, apart_fault, apart_walk, unknown_fault, plain_fault, wants_value, value_walk, flag_fault, Holds, closed_settles, closed_settled}
 
 pub or_else_nil : (xs ys : Kinds) → or_else xs ys ≡ [] → (xs ≡ []) × (ys ≡ [])
 or_else_nil [] ys h = (refl, h)

@@ -1,20 +1,19 @@
 -- Options of the command, each given once, are taken by a parse.
-use Rattle.std.proofs.Common.{◌≡◌, ℕ, Bool, true, false, not, ◌&&◌, ◌||◌, cond, List, [], ◌∷◌, ◌++◌, length, Option, Some, None, refl, sym, ap, ◌∙◌, subst, inl, inr, ◌⊎◌, append-nil, append_assoc}
-use Rattle.std.specs.Prelude.{fold, is_some}
-use Rattle.std.specs.List.{list_any, list_all}
-use Rattle.std.specs.Str.{bytes_eq}
-use Rattle.std.proofs.lemmas.Bool.{cases_Bool, and_parts}
-use Rattle.clap.specs.Lexer.{long_of, short_of}
-use Rattle.clap.specs.Walk.{Row, Rule, Text, Held, Walk, idle, option, settled, walked, reacted, used}
+use Rattle.std.proofs.Common.{◌≡◌, ℕ, Bool, true, false, not, ◌||◌, cond, List, [], ◌∷◌, ◌++◌, Option, Some, None, refl, sym, ap, ◌∙◌, subst, inl, inr, append-nil, append_assoc}
+use Rattle.std.specs.Prelude.{is_some}
+use Rattle.std.specs.List.{list_all}
+use Rattle.std.proofs.lemmas.Bool.{and_parts}
+use Rattle.clap.specs.Lexer.{long_of}
+use Rattle.clap.specs.Walk.{Row, Text, Held, Walk, idle, option, settled, walked, reacted, used}
 use Rattle.clap.specs.Faults.{settle_fault, turn_fault, walk_fault, use_fault}
 use Rattle.clap.specs.Kinds.{Kinds, or_else}
 use Rattle.clap.specs.declared.error.kind.ErrorKind.TheVariants as kind
-use Rattle.command_words.specs.Command.{row_given, rows_given}
+use Rattle.command_words.specs.Command.{rows_given}
 use Rattle.command_words.specs.Options.{Given, IsSpelled, is_given, are_once, are_among, dashed, begins_dash, is_ready}
-use Rattle.command_words.proofs.OnceLemmas.{once_added, once_front, once_last}
+use Rattle.command_words.proofs.OnceLemmas.{once_front, once_last}
 use Rattle.command_words.proofs.WordLemmas.{is_name, ready_no_end, no_dash_no_short, no_dash_no_long, joined_word, dashed_word, known_is_name}
 use Rattle.command_words.proofs.WalkLemmas.{option_rule, rules_of, is_known, row_added, use_fault_is, walk_at, shape_with, held_open, held_closed, held_waiting, joined_fault, joined_walk, apart_fault, apart_walk, value_fault, value_walk, Holds, closed_settles}
-use Rattle.command_words.proofs.ReadLemmas.{settles, no_walk_fault, no_end_fault, end_of}
+use Rattle.command_words.proofs.ReadLemmas.{settles, no_walk_fault, no_end_fault}
 
 -- the words are taken from here on
 pub record AreTaken (names : List Text) (w : Walk) (words : List Text) : Type 0 where

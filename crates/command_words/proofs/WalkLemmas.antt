@@ -1,25 +1,22 @@
 -- What a parse by clap makes of words, for a command whose arguments are plain options with long names.
-use Rattle.std.proofs.Common.{◌≡◌, ℕ, zero, suc, ◌+◌, ◌<◌, ◌≤◌, Bool, true, false, not, ◌&&◌, ◌||◌, cond, eqb, List, [], ◌∷◌, ◌++◌, length, map, Option, Some, None, option_map, refl, sym, ap, ◌∙◌, subst, arith, inl, inr, ◌⊎◌, append-nil, append_assoc}
-use Rattle.std.specs.Prelude.{fold}
-use Rattle.std.specs.List.{find, list_any, list_all}
+use Rattle.std.proofs.Common.{◌≡◌, ℕ, Bool, true, false, ◌||◌, cond, List, [], ◌∷◌, ◌++◌, map, Option, Some, None, refl, sym, ap, ◌∙◌, inl, inr, ◌⊎◌, append-nil}
+use Rattle.std.specs.List.{list_any}
 use Rattle.std.specs.Str.{bytes_eq}
-use Rattle.std.proofs.lemmas.Bool.{cases_Bool, eqb-true, eq-eqb, false_from_ne_true}
+use Rattle.std.proofs.lemmas.Bool.{cases_Bool}
 use Rattle.script_text.proofs.NameLemmas.{same_bytes, bytes_same}
 use Rattle.clap.specs.Lexer.{long_of, short_of}
 use Rattle.std.specs.Prelude.{codes}
 use Rattle.std.proofs.lemmas.List.{map-append}
 use Rattle.clap.specs.declared.error.kind.ErrorKind.TheVariants as kind
-use Rattle.clap.specs.Walk.{at_row, more_values, used, reacted, Row, Rule, Text, Held, Walk, Waiting, idle, option, arg_by_id, arg_by_long, arg_by_index, settled, walked, has_row, without, walk}
+use Rattle.clap.specs.Walk.{at_row, more_values, used, reacted, Row, Rule, Text, Held, Walk, Waiting, idle, option, arg_by_id, arg_by_long, arg_by_index, settled, walked, has_row, without}
 use Rattle.clap.specs.Simple.{Shape, new_rule, new_shape}
-use Rattle.clap.specs.Faults.{settle_fault, turn_fault, walk_fault, use_fault}
-use Rattle.clap.specs.Kinds.{Kinds, or_else}
+use Rattle.clap.specs.Faults.{settle_fault, turn_fault, use_fault}
+use Rattle.clap.specs.Kinds.{or_else}
 use Rattle.clap.specs.declared.builder.action.ArgAction.TheVariants.{Set}
-use Rattle.clap.specs.declared.builder.range.ValueRange.{ValueRange}
-use Rattle.clap.specs.declared.builder.value_parser.Reading.TheVariants as reading
 use Rattle.clap.specs.declared.builder.value_parser.ValueParser.TheVariants as vp
 use Rattle.clap.specs.declared.parser.matches.ValueSource.TheVariants.{CommandLine}
 use Rattle.command_words.specs.Command.{row_given, rows_given}
-use Rattle.command_words.specs.Options.{Given, IsSpelled, is_given, are_once, are_among}
+use Rattle.command_words.specs.Options.{Given, is_given, are_once}
 
 ---- The command
 

@@ -1,6 +1,7 @@
 -- What the words of the program set, and which words are valid.
 use Rattle.std.specs.Prelude.{◌≡◌, ℕ, ◌&&◌, nat_le, List, [], ◌∷◌, codes, Option, Some, None, option_and_then, option_map, if◌then◌else◌}
 use Rattle.std.specs.Str.{bytes_eq}
+use Rattle.heap_model.specs.declared.Limits.{Limits}
 use Rattle.script_text.specs.Words.{is_number, value_of}
 use Rattle.command_words.specs.declared.setting.Mode.{Mode}
 use Rattle.command_words.specs.declared.setting.Mode.TheVariants.{Run, One, Gen}
@@ -38,6 +39,14 @@ setting_by mode segments large slots seed count =
     record { mode = m; segments = g; large_pages = l; slots = s; seed = d; count = c })
     (number_in 0 100000 10000 count)) (number_in 0 18446744073709551615 1 seed)) (number_in 1 16 4 slots)) (number_in 0 4096 1024 large))
     (number_in 1 16 16 segments)) (mode_in mode)
+
+abbrev pub callers_of : Mode → ℕ
+callers_of Run = 64
+callers_of _ = 1
+
+-- the limits of the heap
+abbrev pub limits_of : Setting → Limits
+limits_of s = record { segments = s.segments; large_pages = s.large_pages; slots = s.slots; callers = callers_of s.mode }
 
 -- what options set
 abbrev pub setting_given : List Given → Option Setting

@@ -6,6 +6,8 @@
 
 mod parsing;
 mod setting;
+#[cfg(test)]
+mod tests;
 
 ghost use Rattle.std.specs.Prelude.{◌≡◌, IfOk, IfSome, IfNone, map, string_bytes};
 ghost use Rattle.command_words.specs.declared.setting.Setting.{Setting};

@@ -1,7 +1,8 @@
 // What the values of options set.
 ghost use Rattle.std.specs.Prelude.{◌≡◌, ◌≤◌, ◌&&◌, nat_le, Some, None, IfSome, option_map, if◌then◌else◌};
-ghost use Rattle.command_words.specs.Settings.{mode_of, number_from, mode_in, number_in, setting_by};
+ghost use Rattle.command_words.specs.Settings.{mode_of, number_from, mode_in, number_in, setting_by, limits_of};
 
+use heap_model::Limits;
 use script_text::number;
 
 /// What the program does.
@@ -25,6 +26,24 @@ pub struct Setting {
     pub seed: u64,
     /// How many commands are drawn.
     pub count: u32,
+}
+
+impl Setting {
+    /// The limits of the heap: with threads it may have 64 callers, else one.
+    pub fn limits(&self) -> Limits
+        ensures { result ≡ limits_of self.now }
+    {
+        let callers = match self.mode {
+            Mode::Run => 64,
+            Mode::One | Mode::Gen => 1,
+        };
+        Limits {
+            segments: self.segments,
+            large_pages: self.large_pages,
+            slots: self.slots,
+            callers,
+        }
+    }
 }
 
 /// The values that were given, each as it was written.

@@ -1,6 +1,5 @@
 -- Words give one list of options, so they set one thing or nothing.
-use Rattle.std.proofs.Common.{◌≡◌, ◌∙◌, List, ℕ, Option, Some, None, map, true, false, ap, sym, subst, string_bytes, refl}
-use Rattle.std.specs.List.{list_all}
+use Rattle.std.proofs.Common.{◌≡◌, ◌∙◌, List, ℕ, Option, map, true, false, sym, subst, string_bytes}
 use Rattle.std.specs.Prelude.{IfSome}
 use Rattle.std.proofs.lemmas.List.Folds.{list_all-map}
 use Rattle.command_words.specs.declared.setting.Values.{Values}
@@ -22,5 +21,5 @@ pub returns-in-Some-clause-invalid : goal.returns-in-Some-clause-invalid
 returns-in-Some-clause-invalid c =
     let words : List (List ℕ) = map string_bytes c.args.words.now in
     let told : (given : List Given) × AreOptions names given words × AreTold c.in-Some.values given =
-        subst (λ (o : Option Values). IfSome o (λ v. (given : List Given) × AreOptions names given words × AreTold v given)) c.in-Some.is c.in_ok-values.ensures.told in
+    subst (λ (o : Option Values). IfSome o (λ v. (given : List Given) × AreOptions names given words × AreTold v given)) c.in-Some.is c.in_ok-values.ensures.told in
     sets_nothing words told.0 c.in-Some.values c.setting_of.result told.1 told.2 c.setting_of.ensures

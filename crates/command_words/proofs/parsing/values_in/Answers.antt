@@ -1,5 +1,5 @@
 -- Words that clap takes are options, and words that it refuses are none.
-use Rattle.std.proofs.Common.{◌≡◌, ◌∙◌, List, ℕ, map, true, ap, sym, subst, inl, inr, string_bytes}
+use Rattle.std.proofs.Common.{◌≡◌, ◌∙◌, List, ℕ, map, true, string_bytes}
 use Rattle.std.specs.List.{list_all}
 use Rattle.std.proofs.lemmas.List.Folds.{list_all-map}
 use Rattle.command_words.specs.Options.{is_ready}
