@@ -3,3 +3,4 @@ pub mod LayoutLemmas
 pub mod BlockLemmas
 pub mod Ranges
 pub mod LargeLemmas
+pub mod TallyLemmas

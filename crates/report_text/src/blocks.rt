@@ -45,7 +45,7 @@ fn push_block(text: &mut String, block: &Block) -> Result<(), AllocError>
 }
 
 /// The number of blocks, and the sum of the sizes that they were asked for.
-fn push_sum(text: &mut String, image: &Image) -> Result<(), AllocError>
+pub fn push_sum(text: &mut String, image: &Image) -> Result<(), AllocError>
     requires { IsReadable image.now }
     ensures { OnOk result (string_bytes text.new ≡ string_bytes text.old ++ last_line (decode image.now)) }
 {

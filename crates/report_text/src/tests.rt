@@ -1,4 +1,6 @@
 // A report that was worked out by hand.
+mod many;
+
 ghost use Rattle.std.specs.Prelude.{◌≡◌, ℕ, ◌+◌, ◌*◌, ◌<◌, ◌≤◌, IfOk, IsTrue, List, slice_index};
 ghost use Rattle.claim_rule.specs.Places.{sizes_region, data_region};
 ghost use Rattle.table_words.specs.Told.{AreWords};

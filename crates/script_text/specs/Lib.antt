@@ -19,3 +19,4 @@ pub mod Values
 pub mod Seen
 pub mod Generator
 pub mod Drawing
+pub mod Calls

@@ -1,0 +1,4 @@
+pub mod Threads
+pub mod Rounds
+pub mod Headline
+pub mod Worked
