@@ -1,3 +1,4 @@
 mod Held
 mod Placed
 mod TakenOut
+mod Refused

@@ -7,7 +7,10 @@ use Rattle.heap_model.specs.declared.What.TheVariants as whats
 use Rattle.heap_model.specs.Legal.{leaves_whole}
 use Rattle.heap_model.specs.Runs.{Run}
 use Rattle.heap_model.specs.State.{State, live_size}
-use Rattle.heap_model.specs.Layers.{StandsForVs}
+use Rattle.heap_model.specs.Layers.{StandsForVs, StandsForBack}
+use Rattle.claim_rule.specs.Places.{vs_slot, back_slot}
+use Rattle.backend_fit.specs.Kept.{Kept}
+use Rattle.backend_fit.specs.Kept as backs
 use Rattle.heap_gate.specs.Calls.{with_prepared, rested}
 use Rattle.heap_gate.specs.Token.{Token, Always, now, is_out}
 use Rattle.vs_layer.specs.Kept.{VsKept, block_at, place_for}
@@ -30,6 +33,17 @@ pub record IsUnderVs (c : Token) (vs : VsKept) : Type 0 where
   pub free : c.free ≡ true
   pub held : is_out whats.Vs c.out ≡ true
   pub tells : Always c (λ s. StandsForVs c.opening (now s c).state (layer_of vs))
+
+-- .. under the locks of VS and of the back end, that taken last; each span of VS has a place, and no word is owed
+pub record HasVsAndBack (c : Token) (vs : VsKept) (back : Kept) : Type 0 where
+  pub inside : c.inside ≡ true
+  pub whole : c.whole ≡ true
+  pub free : c.free ≡ true
+  pub out_is : c.out ≡ back_slot ∷ vs_slot ∷ []
+  pub owes : c.owes ≡ []
+  pub used : Always c (λ s. leaves_whole (now s c).state whats.Vs ≡ true)
+  pub tells_vs : Always c (λ s. StandsForVs c.opening (now s c).state (layer_of vs))
+  pub tells_back : Always c (λ s. StandsForBack c.opening (now s c).state (backs.layer_of back))
 
 -- the size of the live block at an address, if one is there
 abbrev pub size_at : VsKept → ℕ → Option ℕ

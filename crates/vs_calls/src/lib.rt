@@ -7,4 +7,4 @@ mod blocks;
 mod placing;
 
 pub use blocks::{measure_vs, take_out};
-pub use placing::hold_in_gap;
+pub use placing::{hold_in_gap, refuse};

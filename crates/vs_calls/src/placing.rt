@@ -1,7 +1,8 @@
 //! A new block of the variable-size layer, in hand.
-ghost use Rattle.std.specs.Prelude.{◌≡◌, ◌*◌, ◌<◌, ◌≤◌, Some, is_some, true, length};
-ghost use Rattle.heap_model.specs.declared.Act.TheVariants.{Place as APlace};
+ghost use Rattle.std.specs.Prelude.{◌≡◌, ◌*◌, ◌<◌, ◌≤◌, [], ◌∷◌, Some, is_some, true, length};
+ghost use Rattle.heap_model.specs.declared.Act.TheVariants.{GiveLock, NoFit, Place as APlace};
 ghost use Rattle.heap_model.specs.declared.Layer.TheVariants as layers;
+ghost use Rattle.heap_model.specs.declared.What.TheVariants as whats;
 ghost use Rattle.heap_model.specs.Layers.{StandsForVs};
 ghost use Rattle.heap_model.specs.Runs.{Run};
 ghost use Rattle.heap_model.specs.State.{Place};
@@ -9,10 +10,12 @@ ghost use Rattle.claim_rule.specs.Entries.{may_prepare};
 ghost use Rattle.heap_gate.specs.Token.{Always, now};
 ghost use Rattle.vs_layer.specs.Kept.{block_at, place_for};
 ghost use Rattle.vs_layer.specs.Standing.{layer_of};
-ghost use Rattle.vs_calls.specs.Blocks.{HasHeld};
+ghost use Rattle.call_parts.specs.Entries.{HasEnded};
+ghost use Rattle.vs_calls.specs.Blocks.{HasHeld, HasVsAndBack};
 
-use call_parts::State;
-use heap_gate::{Caller, prepare};
+use backend_fit::Back;
+use call_parts::{State, give_back, give_vs};
+use heap_gate::{Caller, Heap, prepare};
 use heap_model::{Act, GRANULE_BYTES, Layer};
 use vs_layer::Vs;
 
@@ -43,4 +46,19 @@ pub fn hold_in_gap(c: &mut Caller<State>, vs: &mut Vs, n: u64) -> u64
         layer: Layer::Vs,
     });
     addr
+}
+
+/// Says that no range fits a block of `n` bytes, and gives both locks back. It is the part that a request of the layer itself shares
+/// with one that the front end could not serve.
+pub fn refuse(heap: &Heap<State>, c: &mut Caller<State>, vs: Vs, back: Back, n: u64)
+    requires table { c.old.table ≡ heap.now.table }
+    requires both { HasVsAndBack c.old vs back }
+    requires room { length c.old.prepared < 16 }
+    requires may { Always c.old (λ s. may_prepare s (now s c.old) c.old.number (NoFit n) ≡ true) }
+    ensures { HasEnded c.old c.new (NoFit n ∷ GiveLock whats.Back ∷ GiveLock whats.Vs ∷ []) [] }
+{
+    c.check();
+    prepare(c, Act::NoFit { size: n });
+    give_back(heap, c, back);
+    give_vs(heap, c, vs);
 }
