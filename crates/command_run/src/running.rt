@@ -11,9 +11,9 @@ ghost use Rattle.command_run.specs.Running.{IsServed, AreServed, Runs, RoundRuns
 
 use crate::values::Values;
 use heap_model::{Call, Flags, OutOfMemory, Reply};
-use solo_heap::Solo;
 use report_text::Answers;
 use script_text::{Command, CommandLine, Script, Target};
+use solo_heap::Solo;
 use std::alloc::{AllocError, Global};
 
 /// The replies to the commands of a script, round after round and thread after thread.

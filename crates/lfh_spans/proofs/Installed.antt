@@ -215,7 +215,7 @@ module _ (c0 c1 : Token) (k0 k1 : Kept) (b t draw first hint : ℕ) (high : b �
         ap (λ (r : SpanHistory). unwrap_or (hint_or (r.hints b t) (first_of (spans_of (now s c2).state.back.area b t))) 0) h
         ∙ (ap (λ (f : ℕ → ℕ → Option ℕ). unwrap_or (hint_or (f b t) (first_of (spans_of (now s c2).state.back.area b t))) 0) (behind2 s (before2 s q)).hints
         ∙ ap (λ (o : Option ℕ). unwrap_or (hint_or o (first_of (spans_of (now s c2).state.back.area b t))) 0)
-            (hint_behind (now s c1).state.back.area first b t (order2 s q) (drawn_block b draw) below (now s c1).now.span_history.hints))
+        (hint_behind (now s c1).state.back.area first b t (order2 s q) (drawn_block b draw) below (now s c1).now.span_history.hints))
 
     -- what is behind the entries is so, whether others did something before or not
     entries_agree : (s : Setting) (q : IsSettingOf c1.opening c1.roll s) → AgreesFor c0.number (configuration_after s (now s c1) ds) (configuration_after s (now s c0) ds)

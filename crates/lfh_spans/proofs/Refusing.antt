@@ -40,7 +40,7 @@ may_refuse c k after b draw at whole inside out back makes first room s q =
     ap is_none (sym (λ j. back_place (ap (λ (p : BackPart). p.area) st.part j) ((st.limits ∙ sym q.limits) j).segments (bucket_pages b)) ∙ room.place) in
     let fits : may_act s m n (caller_view m n) (acts.NoSpan b) ≡ true =
     row (is_entered m.state.gate n) (holds m.state.gate n whats.Back) (m.now.calls n).no_span (a.entered ∙ inside) (a.locks whats.Back ∙ out) (first s q) b (request_of s m n).search h.seeks
-        (λ x. is_spent m.state.back.area (caller_view m n) (search_key_of s n (m.now.calls n) x)) (λ x. fits_none s m.state.back.area (bucket_pages x)) h.spent none in
+    (λ x. is_spent m.state.back.area (caller_view m n) (search_key_of s n (m.now.calls n) x)) (λ x. fits_none s m.state.back.area (bucket_pages x)) h.spent none in
     let begun : is_some (m.now.calls n).call ≡ true = ap is_some a.call ∙ a.begun (ap (λ (x : Bool). x || not (c.depth == 0)) inside) in
     and_from (holds_old_block m n && true) _ (and_from (holds_old_block m n) true h.old refl)
     (and_from (meets_demand m.state.back.area (entry n (acts.NoSpan b)) m.now.demand && (false || is_some (m.now.calls n).call)) (may s m n (acts.NoSpan b))

@@ -184,9 +184,9 @@ module _ (c0 : Token) (k0 : Kept) (head : ℕ) (at0 : IsStanding c0) (out : is_o
         let x = here.0 in
         let has : in_span head x ≡ true = and_from (nat_le x.first head) (nat_lt head (x.first + x.pages)) (le-leb x.first head (omega (arith, begins))) (lt-ltb head (x.first + x.pages) (omega (arith, begins, some))) in
         let is : tag ≡ 1 + 256 * x.bucket + 65536 * x.slot + 4294967296 * x.first = w.mine held1
-            ∙ (ap (λ (l : List Owed). owed_or l (2182 + head) (tag_word (lfh_spans (now s c1).state.back.area) head)) paid
-            ∙ (ap (λ (a : Area). tag_word (lfh_spans a) head) a1
-            ∙ tag_in_order (area_of k0) x head order (into_lfh (area_of k0).spans x there (kind_by x here.1)) has)) in
+        ∙ (ap (λ (l : List Owed). owed_or l (2182 + head) (tag_word (lfh_spans (now s c1).state.back.area) head)) paid
+        ∙ (ap (λ (a : Area). tag_word (lfh_spans a) head) a1
+        ∙ tag_in_order (area_of k0) x head order (into_lfh (area_of k0).spans x there (kind_by x here.1)) has)) in
         let t = w.tagged (λ z. omega (arith, is, z)) in
         let i = in_lfh (area_of k0).spans t.span (subst (λ (a : Area). IsOneOf t.span (lfh_spans a)) a1 t.there) in
         let p = and_parts (nat_le t.span.first head) (nat_lt head (t.span.first + t.span.pages)) t.has_page in
@@ -275,7 +275,7 @@ module _ (c0 : Token) (k0 : Kept) (head : ℕ) (at0 : IsStanding c0) (out : is_o
         there = subst (λ (a : Area). IsOneOf (record { first = head; pages = pages; kind = kinds.Lfh; bucket = b; slot = t }) a.spans) (sym (area3 s q)) (subst (λ (y : Span). IsOneOf y (area_of k0).spans) is_span of_tag.there);
         ok = subst (λ (n : ℕ). may s (now s c3) n (acts.Unspan head) ≡ true) (sym run3.does.number) (ok3 s q);
         tags = λ page low high. subst (λ (l : List Owed). owed_or l (2182 + page) (tag_word (lfh_spans (now s c3).state.back.area) page) ≡ 0) (sym cleared.owes)
-        (tags_here head pages page (tag_word (lfh_spans (now s c3).state.back.area) page) c2.owes low high);
+            (tags_here head pages page (tag_word (lfh_spans (now s c3).state.back.area) page) c2.owes low high);
         value = value3 s q;
       }
 
