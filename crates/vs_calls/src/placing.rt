@@ -40,11 +40,14 @@ pub fn hold_in_gap(c: &mut Caller<State>, vs: &mut Vs, n: u64) -> u64
 {
     let addr = vs.place(n);
     let granules = granules_at(vs, addr);
-    prepare(c, Act::Place {
-        start: addr - GRANULE_BYTES,
-        granules,
-        layer: Layer::Vs,
-    });
+    prepare(
+        c,
+        Act::Place {
+            start: addr - GRANULE_BYTES,
+            granules,
+            layer: Layer::Vs,
+        },
+    );
     addr
 }
 
