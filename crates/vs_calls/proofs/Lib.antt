@@ -2,3 +2,4 @@ mod Held
 mod Placed
 mod TakenOut
 mod Refused
+mod Asked

@@ -1,5 +1,5 @@
 -- A refusal under both locks, which are given back.
-use Rattle.std.proofs.Common.{◌≡◌, ℕ, true, List, [], ◌∷◌, ◌++◌, refl, sym, ap, ◌∙◌, subst}
+use Rattle.std.proofs.Common.{◌≡◌, ℕ, true, [], ◌∷◌, refl, sym, ap, ◌∙◌, subst}
 use Rattle.std.specs.List.{list_all}
 use Rattle.heap_model.specs.declared.Act.{Act}
 use Rattle.heap_model.specs.declared.Act.TheVariants as acts
@@ -9,9 +9,9 @@ use Rattle.heap_model.specs.CallState.{Configuration}
 use Rattle.heap_model.specs.Layers.{LayerState, StandsForVs, StandsForBack, sorted_vs}
 use Rattle.heap_model.specs.Legal.{leaves_whole, has_place}
 use Rattle.heap_model.specs.Ranges.{vs_spans}
-use Rattle.heap_model.specs.State.{State, Span, VsPart, holds}
+use Rattle.heap_model.specs.State.{State, holds}
 use Rattle.claim_rule.specs.Entries.{entry}
-use Rattle.claim_rule.specs.Places.{vs_slot, back_slot}
+use Rattle.claim_rule.specs.Places.{vs_slot}
 use Rattle.backend_fit.specs.Kept.{Kept}
 use Rattle.backend_fit.specs.Kept as backs
 use Rattle.backend_fit.proofs.Told.{spans_used}

@@ -1,5 +1,5 @@
 -- A block of VS that is taken and dropped under the lock.
-use Rattle.std.proofs.Common.{◌≡◌, ℕ, ◌+◌, ◌==◌, Bool, true, false, not, ◌&&◌, List, [], ◌∷◌, ◌++◌, Option, Some, None, refl, sym, ap, ◌∙◌, subst, eq-eqb}
+use Rattle.std.proofs.Common.{◌≡◌, ℕ, true, false, not, ◌&&◌, List, [], ◌∷◌, ◌++◌, Option, Some, refl, sym, ap, ◌∙◌, subst, eq-eqb}
 use Rattle.std.specs.List.{find}
 use Rattle.std.proofs.lemmas.Bool.{and_from}
 use Rattle.heap_model.specs.declared.Act.{Act}
@@ -8,24 +8,22 @@ use Rattle.heap_model.specs.declared.Call.{Call}
 use Rattle.heap_model.specs.declared.Layer.{Layer}
 use Rattle.heap_model.specs.declared.Layer.TheVariants as layers
 use Rattle.heap_model.specs.declared.What.TheVariants as whats
-use Rattle.heap_model.specs.CallState.{Configuration, Demand, Nothing, caller_view}
-use Rattle.heap_model.specs.History.{configuration_after}
+use Rattle.heap_model.specs.CallState.{Configuration, caller_view}
 use Rattle.heap_model.specs.Legal.{may_touch, after, with_places, with_status, layer_of, unspan_of}
-use Rattle.heap_model.specs.State.{Setting, State, VsPart, GateAndLocks, Place, Live, InHand, is_live, is_live_of, is_layer, is_live_at, is_hand_at, is_in_hand_of, has_address, hands, in_hand, hand_at, holds, change_found, remove_found}
+use Rattle.heap_model.specs.State.{Setting, State, Place, Live, InHand, is_live, is_live_of, is_layer, is_live_at, is_hand_at, is_in_hand_of, has_address, hands, in_hand, hand_at, holds, change_found, remove_found}
 use Rattle.heap_model.specs.Stay.{for_some}
 use Rattle.heap_model.proofs.ListLemmas.{filter-remove_found}
 use Rattle.heap_soundness.proofs.Lists.{found_passes}
-use Rattle.claim_rule.specs.Entries.{IsSettingOf, entry, is_of_lfh, may_prepare, are_prepared}
+use Rattle.claim_rule.specs.Entries.{entry, is_of_lfh, may_prepare, are_prepared}
 use Rattle.call_laws.specs.Within.{IsWithin, by_all}
 use Rattle.call_laws.proofs.Within.{follows, within_after}
 use Rattle.vs_layer.specs.Kept.{VsKept}
-use Rattle.vs_layer.specs.Standing.{without_block}
 use Rattle.vs_layer.proofs.Told.{block_is}
 use Rattle.heap_gate.specs.Token.{Token, Always, now, IsStanding}
 use Rattle.heap_gate.specs.Calls.{rested, HasRested}
 use Rattle.call_parts.specs.Entries.{with_all}
 use Rattle.call_parts.proofs.Serving.{within}
-use Rattle.call_parts.proofs.Tokens.{now_all, prepares, one_prepared, setting_before_all}
+use Rattle.call_parts.proofs.Tokens.{now_all, prepares, one_prepared}
 use Rattle.call_parts.proofs.VsBlocks.{HasNothing, has_nothing, found_among, taken_hand, taken_dropped}
 use Rattle.vs_calls.specs.Blocks.{IsUnderVs, IsGone, HasTakenOut}
 use Rattle.vs_calls.proofs.Held.{IsLiveBlock, locked}

@@ -1,10 +1,12 @@
 -- Blocks of the variable-size layer, as a call finds and places them.
-use Rattle.std.specs.Prelude.{◌≡◌, ℕ, ◌+◌, ◌*◌, true, [], ◌∷◌, Option, Some, option_and_then}
+use Rattle.std.specs.Prelude.{◌≡◌, ℕ, ◌+◌, ◌*◌, true, false, [], ◌∷◌, Option, Some, option_and_then}
 use Rattle.heap_model.specs.declared.Act.TheVariants as acts
 use Rattle.heap_model.specs.declared.Call.{Call}
 use Rattle.heap_model.specs.declared.Layer.TheVariants as layers
 use Rattle.heap_model.specs.declared.What.TheVariants as whats
-use Rattle.heap_model.specs.Legal.{leaves_whole}
+use Rattle.heap_model.specs.Buckets.{bucket_of}
+use Rattle.heap_model.specs.Legal.{leaves_whole, goes_to_lfh}
+use Rattle.heap_model.specs.Stay.{for_some}
 use Rattle.heap_model.specs.Runs.{Run}
 use Rattle.heap_model.specs.State.{State, live_size}
 use Rattle.heap_model.specs.Layers.{StandsForVs, StandsForBack}
@@ -48,6 +50,10 @@ pub record HasVsAndBack (c : Token) (vs : VsKept) (back : Kept) : Type 0 where
 -- the size of the live block at an address, if one is there
 abbrev pub size_at : VsKept → ℕ → Option ℕ
 size_at vs addr = option_and_then (λ p. live_size p.status) (block_at vs addr)
+
+-- sizes in the bucket of n, where n has one, do not go to the front end
+abbrev pub IsForVs : Token → ℕ → Type 0
+IsForVs c n = Always c (λ s. for_some (bucket_of n) (goes_to_lfh (now s c).state.vs) ≡ false)
 
 -- A block of n bytes has its place where the definitions have it, at the front of the smallest gap that fits, and is in hand: the place is prepared, and
 -- once the block is given the layer tells it.

@@ -1,4 +1,4 @@
-use Rattle.std.proofs.Common.{◌≡◌, sym, ap, subst, ◌∙◌}
+use Rattle.std.proofs.Common.{sym, ap, subst, ◌∙◌}
 use Rattle.heap_gate.specs.Calls.{rested, HasRested}
 use Rattle.heap_gate.specs.Token.{Token, Always, now}
 use Rattle.vs_calls.proofs.Held.{live_block}
