@@ -47,4 +47,3 @@ own_fits b s d h =
     let f1 = f.1 in
     let o = own_below (record { bucket = b; slot = s; draw = d }) (omega (arith, f0)) in
     (o, omega (arith, o, f1))
-

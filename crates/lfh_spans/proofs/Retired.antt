@@ -1,11 +1,10 @@
 -- A subsegment that goes back, step by step: its tag tells the bucket and the slot, its tags are cleared, and its Unspan comes with the store of the hint.
-use Rattle.std.proofs.Common.{◌≡◌, ℕ, ◌+◌, ◌*◌, ◌/◌, ◌%◌, ◌<◌, ◌≤◌, ◌==◌, Bool, true, false, not, ◌&&◌, List, [], ◌∷◌, length, Option, Some, None, refl, sym, ap, ◌∙◌, subst, arith, inl, inr, eqb}
+use Rattle.std.proofs.Common.{◌≡◌, ℕ, ◌+◌, ◌*◌, ◌/◌, ◌%◌, ◌<◌, ◌≤◌, ◌==◌, Bool, true, not, ◌&&◌, List, [], ◌∷◌, Option, Some, None, refl, sym, ap, ◌∙◌, subst, arith, inl, inr}
 use Rattle.std.specs.Prelude.{is_some, unwrap_or, option_map, if◌then◌else◌, nat_le, nat_lt, IfSome, IsSome}
 use Rattle.std.specs.List.{find}
 use Rattle.std.proofs.lemmas.Bool.{cases_Bool, and_parts, and_from, eqb-true, le-leb, lt-ltb, ltb-true, leb-true, false≢true}
 use Rattle.heap_model.specs.declared.Act.TheVariants as acts
 use Rattle.heap_model.specs.declared.Call.{Call}
-use Rattle.heap_model.specs.declared.Entry.{Entry}
 use Rattle.heap_model.specs.declared.Kind.{Kind}
 use Rattle.heap_model.specs.declared.Kind.TheVariants as kinds
 use Rattle.heap_model.specs.declared.Limits.{Limits}
@@ -22,7 +21,7 @@ use Rattle.heap_model.specs.Search.{spans_of, span_at, begins_at, first_of}
 use Rattle.heap_model.specs.Legal.{may, is_compact, may_unspan, may_unspan_of, is_unused, has_place, places_in, after}
 use Rattle.heap_model.specs.Geometry.{page_bytes}
 use Rattle.heap_model.specs.Layers.{StandsForBack}
-use Rattle.heap_model.specs.Agreement.{AgreesFor, SameHeap}
+use Rattle.heap_model.specs.Agreement.{AgreesFor}
 use Rattle.heap_model.proofs.ListLemmas.{for_some_parts}
 use Rattle.heap_model.proofs.Others.{agrees_trans}
 use Rattle.heap_model.proofs.Own.{act_agrees}
@@ -32,7 +31,7 @@ use Rattle.heap_soundness.proofs.Lists.{found_in, found_passes}
 use Rattle.heap_soundness.proofs.Spans.{same_span, above}
 use Rattle.claim_rule.specs.declared.views.Owed.{Owed}
 use Rattle.claim_rule.specs.Entries.{IsSettingOf, entry, setting_of}
-use Rattle.claim_rule.specs.Shown.{hint_word, owed_or, tag_of, tag_word, lfh_spans}
+use Rattle.claim_rule.specs.Shown.{hint_word, owed_or, tag_word, lfh_spans}
 use Rattle.claim_rule.proofs.Advance.{some_setting}
 use Rattle.step_parts.proofs.BlockWords.{in_lfh, into_lfh}
 use Rattle.step_parts.proofs.Tags.{tag_parts}
@@ -48,7 +47,7 @@ use Rattle.backend_fit.specs.Effects.{part_without, without_span, place_of}
 use Rattle.backend_fit.proofs.Told.{place_at_address, fills}
 use Rattle.data_words.proofs.Copying.{does_then, runs_then, none}
 use Rattle.heap_gate.specs.Token.{Token, Always, IsStanding, now, is_out}
-use Rattle.heap_gate.specs.Calls.{Does, Runs, Stands, stance}
+use Rattle.heap_gate.specs.Calls.{Runs, Stands, stance}
 use Rattle.lfh_spans.specs.Subsegments.{IsBackOf}
 use Rattle.lfh_spans.proofs.Joined.{HasBack, has_back_by, setting_of_old, still_held, hint_still, back_of_still}
 use Rattle.lfh_spans.proofs.Tagged.{spans_in_order, span_within, tag_in_order}
@@ -184,9 +183,9 @@ module _ (c0 : Token) (k0 : Kept) (head : ℕ) (at0 : IsStanding c0) (out : is_o
         let x = here.0 in
         let has : in_span head x ≡ true = and_from (nat_le x.first head) (nat_lt head (x.first + x.pages)) (le-leb x.first head (omega (arith, begins))) (lt-ltb head (x.first + x.pages) (omega (arith, begins, some))) in
         let is : tag ≡ 1 + 256 * x.bucket + 65536 * x.slot + 4294967296 * x.first = w.mine held1
-            ∙ (ap (λ (l : List Owed). owed_or l (2182 + head) (tag_word (lfh_spans (now s c1).state.back.area) head)) paid
-            ∙ (ap (λ (a : Area). tag_word (lfh_spans a) head) a1
-            ∙ tag_in_order (area_of k0) x head order (into_lfh (area_of k0).spans x there (kind_by x here.1)) has)) in
+        ∙ (ap (λ (l : List Owed). owed_or l (2182 + head) (tag_word (lfh_spans (now s c1).state.back.area) head)) paid
+        ∙ (ap (λ (a : Area). tag_word (lfh_spans a) head) a1
+        ∙ tag_in_order (area_of k0) x head order (into_lfh (area_of k0).spans x there (kind_by x here.1)) has)) in
         let t = w.tagged (λ z. omega (arith, is, z)) in
         let i = in_lfh (area_of k0).spans t.span (subst (λ (a : Area). IsOneOf t.span (lfh_spans a)) a1 t.there) in
         let p = and_parts (nat_le t.span.first head) (nat_lt head (t.span.first + t.span.pages)) t.has_page in
@@ -275,7 +274,7 @@ module _ (c0 : Token) (k0 : Kept) (head : ℕ) (at0 : IsStanding c0) (out : is_o
         there = subst (λ (a : Area). IsOneOf (record { first = head; pages = pages; kind = kinds.Lfh; bucket = b; slot = t }) a.spans) (sym (area3 s q)) (subst (λ (y : Span). IsOneOf y (area_of k0).spans) is_span of_tag.there);
         ok = subst (λ (n : ℕ). may s (now s c3) n (acts.Unspan head) ≡ true) (sym run3.does.number) (ok3 s q);
         tags = λ page low high. subst (λ (l : List Owed). owed_or l (2182 + page) (tag_word (lfh_spans (now s c3).state.back.area) page) ≡ 0) (sym cleared.owes)
-        (tags_here head pages page (tag_word (lfh_spans (now s c3).state.back.area) page) c2.owes low high);
+            (tags_here head pages page (tag_word (lfh_spans (now s c3).state.back.area) page) c2.owes low high);
         value = value3 s q;
       }
 

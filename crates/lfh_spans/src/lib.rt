@@ -6,9 +6,9 @@
 //! cleared before the hint moves on. All words of a subsegment are stored under the back end's lock.
 #![tactic(auto)]
 
-mod stores;
-mod steps;
 mod search;
+mod steps;
+mod stores;
 
 ghost use Rattle.std.specs.Prelude.{◌≡◌, ◌+◌, ◌*◌, ◌<◌, ◌≤◌, ◌∷◌, [], true, false, length, IfSome, IfNone};
 ghost use Rattle.heap_model.specs.declared.Act.TheVariants.{NoSpan, Unspan};

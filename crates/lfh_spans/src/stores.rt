@@ -18,7 +18,8 @@ ghost use Rattle.heap_gate.specs.Calls.{Runs, Stands as Standing, stance};
 ghost use Rattle.lfh_spans.specs.Stores.{AreTagged, HasMade, paid_tags, reserving_in};
 
 use crate::steps::{
-    Subsegment, clear_tag_by, install_by, look_hint_by, look_tag_by, put_hint_by, put_tag_by, retire_by,
+    Subsegment, clear_tag_by, install_by, look_hint_by, look_tag_by, put_hint_by, put_tag_by,
+    retire_by,
 };
 use heap_gate::{Caller, Heap};
 use heap_model::Stands;
@@ -97,7 +98,13 @@ pub fn look_tag<T: Stands>(heap: &Heap<T>, c: &mut Caller<T>, page: u32) -> u64
 {
     let limits = heap.limits();
     let at = tag_at(&limits, page) as usize;
-    let word = look_tag_by::<T, Brand, Brand>(&heap.table.shared, &mut c.place, &c.prepared, page, at);
+    let word = look_tag_by::<T, Brand, Brand>(
+        &heap.table.shared,
+        &mut c.place,
+        &c.prepared,
+        page,
+        at,
+    );
     c.prepared.clear();
     c.pending = false;
     word
@@ -225,7 +232,14 @@ pub fn give_up<T: Stands>(heap: &Heap<T>, c: &mut Caller<T>, at: Subsegment, hin
     ensures stands { Standing c.new (record (stance c.old) { owes = owed_by_retire at.bucket at.slot at.head at.pages c.old.owes }) }
 {
     let word = hint_at(at.bucket, at.slot as u8) as usize;
-    retire_by::<T, Brand, Brand>(&heap.table.shared, &mut c.place, &c.prepared, at, word, hint);
+    retire_by::<T, Brand, Brand>(
+        &heap.table.shared,
+        &mut c.place,
+        &c.prepared,
+        at,
+        word,
+        hint,
+    );
     c.prepared.clear();
     c.pending = false;
 }

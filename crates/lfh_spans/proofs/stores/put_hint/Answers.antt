@@ -1,22 +1,14 @@
-use Rattle.std.proofs.Common.{◌≡◌, ℕ, ◌∙◌, true, List, [], ◌∷◌, sym, subst, ap, arith}
+use Rattle.std.proofs.Common.{◌≡◌, ◌∙◌, true, [], sym, subst, ap}
 use Rattle.random_pick.specs.CallerDraws.{words_of}
-use Rattle.claim_rule.specs.declared.views.Owed.{Owed}
-use Rattle.claim_rule.specs.Places.{tag_at, hint_at}
-use Rattle.claim_rule.specs.Rule.{ready_after}
-use Rattle.claim_rule.specs.Shown.{lfh_spans, tag_word, hint_word}
-use Rattle.heap_model.specs.State.{Setting, holds}
-use Rattle.heap_model.specs.CallState.{Configuration}
+use Rattle.claim_rule.specs.Places.{hint_at}
+use Rattle.claim_rule.specs.Shown.{hint_word}
+use Rattle.heap_model.specs.State.{holds}
 use Rattle.heap_model.specs.declared.What.TheVariants as whats
-use Rattle.heap_gate.specs.Token.{Token, Always, now, outs, is_out}
+use Rattle.heap_gate.specs.Token.{Token, Always, now, is_out}
 use Rattle.heap_gate.specs.Seated.{Face, tok}
 use Rattle.heap_gate.specs.Calls.{Runs, Stands, stance}
-use Rattle.heap_gate.proofs.Tokens.{as_was, faced, goes_by, may_by, with_left}
-use Rattle.span_steps.specs.Stores.{paid_off, owed_zero}
-use Rattle.lfh_spans.specs.Stores.{AreTagged}
-use Rattle.lfh_spans.specs.Hints.{own_slot}
-use Rattle.claim_rule.specs.Plays.{number_of}
-use Rattle.heap_model.specs.History.{configuration_of}
-use Rattle.look_steps.specs.Looks.{IsHintWord, IsTagWord}
+use Rattle.heap_gate.proofs.Tokens.{as_was, faced, goes_by, may_by}
+use Rattle.span_steps.specs.Stores.{paid_off}
 use Rattle.lfh_spans.proofs.Quiet.{quiet, quiet_runs, has_back}
 use Rattle.lfh_spans.proofs.stores.put_hint.Goals as goal
 
@@ -25,7 +17,7 @@ put_hint_by-requires-clause-may g c =
     let i = c.c.inside in let f : Face = record { number = i.number; prepared = i.prepared.items; pending = i.pending; call = i.call; fresh = i.fresh; locked = i.locked; inside = i.inside; depth = i.depth; whole = i.whole; free = i.free; drawn = i.drawn } in let h = c.c.invariant in let z = i.place.table_id in let me = i.place.me in let stream = words_of i.draws in let v = c.c.view_is in
     let b = c.args.bucket in let t = c.args.slot in let head = c.args.head in let value : head ≡ c.from-value.result = sym c.from-value.ensures in let o = ap (λ (t : Token). is_out whats.Back t.out) v ∙ c.requires.held in
     may_by z me f i.slot stream h (λ m n. (holds m.state.gate n whats.Back ≡ true) × (hint_word m.state.back.area m.now.span_history b t ≡ c.from-value.result))
-        (λ s q. (has_back z me f i.slot stream h o s q, subst (λ (y : Token). Always y (λ s. hint_word (now s y).state.back.area (now s y).now.span_history b t ≡ head)) (sym v) c.requires.head s q ∙ value))
+    (λ s q. (has_back z me f i.slot stream h o s q, subst (λ (y : Token). Always y (λ s. hint_word (now s y).state.back.area (now s y).now.span_history b t ≡ head)) (sym v) c.requires.head s q ∙ value))
 
 pub invariant_of-c : goal.invariant_of-c
 invariant_of-c g c =

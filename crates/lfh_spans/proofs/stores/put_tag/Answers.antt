@@ -1,22 +1,15 @@
-use Rattle.std.proofs.Common.{◌≡◌, ℕ, ◌∙◌, true, List, [], ◌∷◌, sym, subst, ap, arith}
+use Rattle.std.proofs.Common.{◌≡◌, ◌∙◌, true, [], sym, subst, ap, arith}
 use Rattle.random_pick.specs.CallerDraws.{words_of}
-use Rattle.claim_rule.specs.declared.views.Owed.{Owed}
-use Rattle.claim_rule.specs.Places.{tag_at, hint_at}
-use Rattle.claim_rule.specs.Rule.{ready_after}
-use Rattle.claim_rule.specs.Shown.{lfh_spans, tag_word, hint_word}
-use Rattle.heap_model.specs.State.{Setting, holds}
-use Rattle.heap_model.specs.CallState.{Configuration}
+use Rattle.claim_rule.specs.Places.{tag_at}
+use Rattle.claim_rule.specs.Shown.{lfh_spans, tag_word}
+use Rattle.heap_model.specs.State.{holds}
 use Rattle.heap_model.specs.declared.What.TheVariants as whats
-use Rattle.heap_gate.specs.Token.{Token, Always, now, outs, is_out}
+use Rattle.heap_gate.specs.Token.{Token, Always, now, is_out}
 use Rattle.heap_gate.specs.Seated.{Face, tok}
 use Rattle.heap_gate.specs.Calls.{Runs, Stands, stance}
-use Rattle.heap_gate.proofs.Tokens.{as_was, faced, goes_by, may_by, with_left}
-use Rattle.span_steps.specs.Stores.{paid_off, owed_zero}
+use Rattle.heap_gate.proofs.Tokens.{as_was, faced, goes_by, may_by}
+use Rattle.span_steps.specs.Stores.{paid_off}
 use Rattle.lfh_spans.specs.Stores.{AreTagged}
-use Rattle.lfh_spans.specs.Hints.{own_slot}
-use Rattle.claim_rule.specs.Plays.{number_of}
-use Rattle.heap_model.specs.History.{configuration_of}
-use Rattle.look_steps.specs.Looks.{IsHintWord, IsTagWord}
 use Rattle.lfh_spans.proofs.Quiet.{quiet, quiet_runs, has_back}
 use Rattle.lfh_spans.proofs.stores.put_tag.Goals as goal
 
@@ -25,7 +18,7 @@ put_tag_by-requires-clause-may g c =
     let i = c.c.inside in let f : Face = record { number = i.number; prepared = i.prepared.items; pending = i.pending; call = i.call; fresh = i.fresh; locked = i.locked; inside = i.inside; depth = i.depth; whole = i.whole; free = i.free; drawn = i.drawn } in let h = c.c.invariant in let z = i.place.table_id in let me = i.place.me in let stream = words_of i.draws in let v = c.c.view_is in
     let page = c.args.page in let tag = c.args.tag in let o = ap (λ (t : Token). is_out whats.Back t.out) v ∙ c.requires.held in
     may_by z me f i.slot stream h (λ m n. (holds m.state.gate n whats.Back ≡ true) × (tag_word (lfh_spans m.state.back.area) page ≡ tag))
-        (λ s q. (has_back z me f i.slot stream h o s q, subst (λ (t : Token). Always t (λ s. AreTagged (now s t) page 1 tag)) (sym v) c.requires.tag s q page (omega arith) (omega arith)))
+    (λ s q. (has_back z me f i.slot stream h o s q, subst (λ (t : Token). Always t (λ s. AreTagged (now s t) page 1 tag)) (sym v) c.requires.tag s q page (omega arith) (omega arith)))
 
 pub invariant_of-c : goal.invariant_of-c
 invariant_of-c g c =
