@@ -1,6 +1,6 @@
 -- No legal history has a span that begins behind the segments.
-use Rattle.std.proofs.Common.{◌≡◌, ℕ, ◌+◌, ◌*◌, ◌/◌, ◌<◌, ◌≤◌, Bool, true, false, ◌&&◌, ◌==◌, List, [], ◌∷◌, Option, Some, None, refl, sym, ap, ◌∙◌, subst, arith, inl, inr}
-use Rattle.std.specs.Prelude.{nat_lt, option_map}
+use Rattle.std.proofs.Common.{◌≡◌, ℕ, ◌+◌, ◌*◌, ◌/◌, ◌<◌, ◌≤◌, Bool, true, ◌==◌, List, [], ◌∷◌, Option, Some, None, subst, arith, inl, inr}
+use Rattle.std.specs.Prelude.{nat_lt}
 use Rattle.std.specs.List.{AllByRecursion}
 use Rattle.std.proofs.lemmas.Bool.{cases_Bool, and_parts, ltb-true, eqb-true, eqb-false}
 use Rattle.heap_model.specs.declared.Act.{Act}
@@ -8,10 +8,10 @@ use Rattle.heap_model.specs.declared.Act.TheVariants as acts
 use Rattle.heap_model.specs.declared.Entry.{Entry}
 use Rattle.heap_model.specs.declared.What.TheVariants as whats
 use Rattle.heap_model.specs.declared.Layer.TheVariants as layers
-use Rattle.heap_model.specs.State.{Setting, Area, Span, Place, State, insert_span, remove_found, change_found, place_at, is_layer}
-use Rattle.heap_model.specs.CallState.{Configuration, caller_view}
-use Rattle.heap_model.specs.Legal.{after, may, may_follow, with_span, is_back_at, with_pages, area_with}
-use Rattle.heap_model.specs.Search.{begins_at, request_of}
+use Rattle.heap_model.specs.State.{Setting, Area, Span, Place, insert_span, remove_found, change_found, place_at, is_layer}
+use Rattle.heap_model.specs.CallState.{Configuration}
+use Rattle.heap_model.specs.Legal.{after, may, may_follow, is_back_at, with_pages, area_with}
+use Rattle.heap_model.specs.Search.{begins_at}
 use Rattle.heap_model.specs.History.{configuration_after, configuration_of, first_configuration, may_all_follow, is_legal}
 use Rattle.heap_model.proofs.GateSound.{row_of}
 use Rattle.claim_rule.specs.declared.views.Owed.{Owed}

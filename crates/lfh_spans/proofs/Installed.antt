@@ -1,8 +1,7 @@
 -- What the steps of making a subsegment come to, one behind another: the hint is looked at, the first block is claimed, and the tags and the hint are stored.
-use Rattle.std.proofs.Common.{◌≡◌, ℕ, zero, suc, ◌+◌, ◌*◌, ◌/◌, ◌<◌, ◌≤◌, ◌==◌, Bool, true, false, not, ◌&&◌, ◌||◌, List, [], ◌∷◌, ◌++◌, length, Option, Some, None, refl, sym, ap, ◌∙◌, subst, arith, inl, inr, eq-eqb, ne_eqb}
+use Rattle.std.proofs.Common.{◌≡◌, ℕ, zero, suc, ◌+◌, ◌*◌, ◌/◌, ◌<◌, ◌≤◌, ◌==◌, Bool, true, not, ◌||◌, List, [], ◌∷◌, length, Option, Some, refl, sym, ap, ◌∙◌, subst, arith, inl, inr, eq-eqb, ne_eqb}
 use Rattle.std.specs.Prelude.{is_some, unwrap_or, cond, nat_le}
 use Rattle.std.proofs.lemmas.Bool.{cases_Bool}
-use Rattle.std.specs.List.{find}
 use Rattle.std.proofs.lemmas.List.{append-nil}
 use Rattle.heap_model.specs.declared.Act.TheVariants as acts
 use Rattle.heap_model.specs.declared.Entry.{Entry}
@@ -16,7 +15,7 @@ use Rattle.heap_model.specs.Buckets.{bucket_pages, block_size, block_address, bl
 use Rattle.heap_model.specs.Marks.{lfh_mark}
 use Rattle.heap_model.specs.State.{Setting, Area, BackPart, GateAndLocks, Place, holds, is_entered, in_hand, places_of, InHand}
 use Rattle.heap_model.specs.Backend.{back_place}
-use Rattle.heap_model.specs.CallState.{Configuration, CallState, CallerView, SpanHistory, caller_view}
+use Rattle.heap_model.specs.CallState.{Configuration, CallState, SpanHistory}
 use Rattle.heap_model.specs.Search.{is_spent, search_key_of, draw_of, hint_or, first_of, spans_of}
 use Rattle.heap_model.specs.Legal.{after, span_history_placed, with_span}
 use Rattle.heap_model.specs.History.{configuration_after}
@@ -45,7 +44,7 @@ use Rattle.heap_gate.specs.Token.{Token, Always, IsStanding, now, is_out}
 use Rattle.heap_gate.specs.Calls.{Does, Runs, Stands, stance}
 use Rattle.lfh_spans.specs.Hints.{own_slot}
 use Rattle.lfh_spans.specs.Stores.{AreTagged, HasMade, made_with, paid_tags, reserving_in}
-use Rattle.lfh_spans.specs.Subsegments.{IsBackOf, MayMake, HasInstalled, drawn_block, installing, reserving}
+use Rattle.lfh_spans.specs.Subsegments.{IsBackOf, MayMake, HasInstalled, drawn_block}
 use Rattle.lfh_spans.proofs.Likeness.{old_agrees}
 use Rattle.lfh_spans.proofs.Installing.{may_install, new_span}
 use Rattle.lfh_spans.proofs.Joined.{HasBack, has_back_by, setting_of_old, still_held, hint_still, back_of_still}

@@ -1,35 +1,33 @@
 -- Where the search of a caller is spent and it holds Back, a subsegment may be made where the back end has room, and its drawn block claimed.
-use Rattle.std.proofs.Common.{◌≡◌, ◌⊎◌, ℕ, ◌+◌, ◌*◌, ◌/◌, ◌<◌, ◌==◌, Bool, true, false, ◌&&◌, ◌||◌, not, List, [], ◌∷◌, ◌++◌, Option, Some, None, refl, sym, ap, ◌∙◌, subst, arith, inl, inr, ⊎_elim, eqb, eq-eqb}
+use Rattle.std.proofs.Common.{◌≡◌, ℕ, ◌/◌, ◌<◌, ◌==◌, Bool, true, false, ◌&&◌, ◌||◌, List, [], ◌∷◌, Option, Some, None, refl, sym, ap, ◌∙◌, subst, inl, inr, ⊎_elim, eq-eqb}
 use Rattle.std.specs.Prelude.{nat_lt, is_some, option_and_then}
-use Rattle.std.proofs.lemmas.Bool.{cases_Bool, and_parts, and_from, or_right, lt-ltb, ltb-true, ltb-false, le-ltb, false≢true}
+use Rattle.std.proofs.lemmas.Bool.{cases_Bool, and_from, lt-ltb, ltb-true, false≢true}
 use Rattle.heap_model.specs.declared.Act.{Act}
 use Rattle.heap_model.specs.declared.Act.TheVariants as acts
-use Rattle.heap_model.specs.declared.Call.{Call}
 use Rattle.heap_model.specs.declared.Entry.{Entry}
 use Rattle.heap_model.specs.declared.Kind.TheVariants as kinds
 use Rattle.heap_model.specs.declared.Limits.{Limits}
 use Rattle.heap_model.specs.declared.Opening.{Opening}
 use Rattle.heap_model.specs.declared.What.TheVariants as whats
 use Rattle.heap_model.specs.Buckets.{bucket_of, bucket_pages, block_count}
-use Rattle.heap_model.specs.State.{Setting, Area, BackPart, Span, State, holds, is_entered, updated, insert_span}
-use Rattle.heap_model.specs.Backend.{back_place, free_runs}
+use Rattle.heap_model.specs.State.{Setting, Area, BackPart, Span, holds, is_entered}
+use Rattle.heap_model.specs.Backend.{back_place}
 use Rattle.heap_model.specs.Ranges.{is_of_kind}
 use Rattle.heap_model.specs.Stay.{for_some, is_some_of}
-use Rattle.heap_model.specs.CallState.{Stage, NotBegun, AtHint, FirstPass, SecondPass, Configuration, CallState, CallerView, Nothing, SpanBy, caller_view}
-use Rattle.heap_model.specs.Search.{SearchKey, request_of, search_key_of, is_spent, all_read_at, draw_of, own_block, may_claim, asked_bucket, after_own_span, sought, searched}
-use Rattle.heap_model.specs.Legal.{after, may, may_follow, is_run_of, call_after, step_search, with_search, meets_demand, with_span}
+use Rattle.heap_model.specs.CallState.{Stage, NotBegun, AtHint, FirstPass, SecondPass, Configuration, CallState, CallerView, Nothing, caller_view}
+use Rattle.heap_model.specs.Search.{SearchKey, request_of, search_key_of, is_spent, all_read_at, draw_of, may_claim, asked_bucket, after_own_span, sought, searched}
+use Rattle.heap_model.specs.Legal.{after, may, may_follow, step_search, with_search, meets_demand}
 use Rattle.heap_model.specs.History.{configuration_after, may_all_follow}
-use Rattle.heap_model.specs.Layers.{StandsForBack, LayerState}
+use Rattle.heap_model.specs.Layers.{StandsForBack}
 use Rattle.heap_model.specs.Agreement.{is_prepared, holds_old_block}
 use Rattle.heap_model.proofs.ListLemmas.{filter-insert_span}
 use Rattle.heap_soundness.proofs.Picks.{sought_asked}
 use Rattle.serial_laws.specs.BackCalls.{one_more_reserved}
-use Rattle.claim_rule.specs.declared.views.Owed.{Owed}
 use Rattle.claim_rule.specs.Entries.{entry}
-use Rattle.claim_rule.specs.Shown.{hint_word, owed_or}
+use Rattle.claim_rule.specs.Shown.{hint_word}
 use Rattle.span_steps.specs.Installs.{making, MayInstall}
 use Rattle.span_steps.proofs.NewSubsegment.{in_inserted}
-use Rattle.step_parts.specs.Claims.{CanClaim, MayClaim}
+use Rattle.step_parts.specs.Claims.{MayClaim}
 use Rattle.step_parts.proofs.BlockWords.{into_lfh}
 use Rattle.backend_fit.specs.Kept.{Kept, area_of, layer_of}
 use Rattle.backend_fit.specs.Sound.{IsSound}

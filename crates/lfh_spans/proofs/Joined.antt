@@ -1,20 +1,18 @@
 -- Steps of a caller one behind another, and what the holder of Back still has behind steps without entries.
-use Rattle.std.proofs.Common.{◌≡◌, ℕ, ◌+◌, Bool, true, false, List, [], ◌∷◌, ◌++◌, refl, sym, ap, ◌∙◌, subst}
+use Rattle.std.proofs.Common.{◌≡◌, ℕ, true, false, List, [], ◌++◌, refl, sym, ap, ◌∙◌, subst}
 use Rattle.std.proofs.lemmas.List.{append-nil}
 use Rattle.heap_model.specs.declared.Entry.{Entry}
 use Rattle.heap_model.specs.declared.Opening.{Opening}
 use Rattle.heap_model.specs.declared.What.TheVariants as whats
-use Rattle.heap_model.specs.State.{Setting, BackPart, hands, holds}
-use Rattle.heap_model.specs.CallState.{Configuration, SpanHistory}
-use Rattle.heap_model.specs.History.{configuration_after, own}
+use Rattle.heap_model.specs.State.{Setting, BackPart, holds}
+use Rattle.heap_model.specs.History.{own}
 use Rattle.heap_model.specs.Layers.{sorted_back}
-use Rattle.heap_model.specs.Agreement.{AgreesFor}
 use Rattle.heap_model.proofs.Others.{agrees_self}
 use Rattle.claim_rule.specs.declared.views.Owed.{Owed}
 use Rattle.claim_rule.specs.Entries.{IsSettingOf, IsLegalWith}
 use Rattle.claim_rule.specs.Shown.{lfh_spans, tag_word, hint_word}
 use Rattle.claim_rule.proofs.Lists.{prefix_self, setting_less}
-use Rattle.backend_fit.specs.Kept.{Kept, layer_of}
+use Rattle.backend_fit.specs.Kept.{Kept}
 use Rattle.heap_gate.specs.Token.{Token, Always, IsStanding, now, is_out}
 use Rattle.heap_gate.specs.Calls.{Does, Runs, Stands, stance}
 use Rattle.lfh_spans.specs.Stores.{AreTagged}

@@ -1,5 +1,5 @@
 -- What a caller's search goes by is the same in two configurations that differ in pages, other than those of VS, and in how far the search is.
-use Rattle.std.proofs.Common.{◌≡◌, ℕ, ◌+◌, ◌/◌, Bool, true, false, ◌&&◌, ◌||◌, not, List, [], ◌++◌, Option, Some, None, refl, sym, ap, ◌∙◌, subst, arith, inl, inr}
+use Rattle.std.proofs.Common.{◌≡◌, ℕ, ◌+◌, ◌/◌, Bool, true, false, ◌&&◌, ◌||◌, not, List, Option, Some, None, refl, sym, ap, ◌∙◌, inl, inr}
 use Rattle.std.specs.Prelude.{option_and_then, nat_le, cond}
 use Rattle.std.specs.List.{find}
 use Rattle.std.proofs.lemmas.Bool.{cases_Bool, le-leb, false≢true}
@@ -12,9 +12,9 @@ use Rattle.heap_model.specs.Geometry.{route_of, is_paged, is_huge, units_of}
 use Rattle.heap_model.specs.Buckets.{bucket_of}
 use Rattle.heap_model.specs.Stay.{lets_stay_in, reach_in, run_from, for_some}
 use Rattle.heap_model.specs.Ranges.{vs_spans, gaps_of}
-use Rattle.heap_model.specs.State.{Setting, State, GateAndLocks, VsPart, Span, Place, exclusive_places, place_at, has_address, holds, is_live, is_in_hand_of}
-use Rattle.heap_model.specs.CallState.{Configuration, CallState, CallerView, caller_view}
-use Rattle.heap_model.specs.Search.{request_of, sought, sought_by, searched, has_to_move}
+use Rattle.heap_model.specs.State.{Setting, State, GateAndLocks, VsPart, Place, exclusive_places, place_at, has_address, holds, is_live, is_in_hand_of}
+use Rattle.heap_model.specs.CallState.{Configuration, CallState, caller_view}
+use Rattle.heap_model.specs.Search.{request_of, sought_by, searched, has_to_move}
 use Rattle.heap_model.specs.Legal.{may_touch}
 use Rattle.heap_model.specs.Agreement.{AgreesFor, holds_old_block, moves_exclusive, is_exclusive_at}
 use Rattle.heap_model.proofs.Stable.{caller_view_same, same_exclusive}

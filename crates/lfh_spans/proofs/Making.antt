@@ -1,6 +1,6 @@
 -- A caller behind a step with several entries of its own that open nothing to it: a subsegment made with its first place, and one given up.
-use Rattle.std.proofs.Common.{◌≡◌, ◌⊎◌, ℕ, ◌/◌, ◌==◌, Bool, true, false, ◌&&◌, List, [], ◌∷◌, ◌++◌, Option, Some, None, refl, sym, ap, ◌∙◌, subst, inl, inr, eq-eqb}
-use Rattle.std.specs.Prelude.{nat_lt, is_some}
+use Rattle.std.proofs.Common.{◌≡◌, ℕ, ◌/◌, ◌==◌, Bool, true, false, List, [], ◌∷◌, Option, Some, None, refl, sym, ap, ◌∙◌, subst, inl, inr, eq-eqb}
+use Rattle.std.specs.Prelude.{nat_lt}
 use Rattle.std.specs.List.{AllByRecursion}
 use Rattle.std.proofs.lemmas.Bool.{cases_Bool, and_parts, and_from, false≢true}
 use Rattle.atomic_table.specs.Table.{Me}
@@ -12,7 +12,7 @@ use Rattle.heap_model.specs.declared.Call.{Call}
 use Rattle.heap_model.specs.declared.Entry.{Entry}
 use Rattle.heap_model.specs.declared.Kind.TheVariants as kinds
 use Rattle.heap_model.specs.declared.Layer.TheVariants as layers
-use Rattle.heap_model.specs.State.{Setting, State, GateAndLocks, hands, holds, is_among, is_caller, is_entered, updated}
+use Rattle.heap_model.specs.State.{Setting, GateAndLocks, hands, holds, is_among, is_caller, is_entered, updated}
 use Rattle.heap_model.specs.Buckets.{block_size, block_address}
 use Rattle.heap_model.specs.CallState.{Configuration, CallState, Search, Nothing}
 use Rattle.heap_model.specs.Search.{SearchKey, asked_bucket, after_own_span}
@@ -21,20 +21,18 @@ use Rattle.heap_model.specs.History.{configuration_after, configuration_of, may_
 use Rattle.heap_model.specs.Agreement.{AgreesFor, reveals_nothing}
 use Rattle.heap_model.proofs.GateSound.{row_of}
 use Rattle.heap_model.proofs.Own.{act_agrees}
-use Rattle.claim_rule.specs.declared.views.Owed.{Owed}
 use Rattle.claim_rule.specs.declared.views.View.{View}
 use Rattle.claim_rule.specs.Entries.{IsSettingOf, entry, is_by}
 use Rattle.claim_rule.specs.Rule.{ready_after}
 use Rattle.claim_rule.specs.Plays.{Goes, GoesIn}
-use Rattle.claim_rule.proofs.Lists.{after-append}
-use Rattle.span_steps.specs.Installs.{making, IsReserving, owed_by_install}
+use Rattle.span_steps.specs.Installs.{IsReserving, owed_by_install}
 use Rattle.span_steps.specs.Retires.{owed_by_retire}
 use Rattle.step_parts.specs.InHand.{HasBlock}
-use Rattle.heap_gate.specs.Token.{IsAt, IsCaller, AreOut, SearchMarks, search_mark, search_marks_from, outs}
+use Rattle.heap_gate.specs.Token.{IsAt, IsCaller, AreOut, SearchMarks, search_marks_from, outs}
 use Rattle.heap_gate.specs.Seated.{Face, tok}
 use Rattle.heap_gate.specs.Calls.{Runs}
 use Rattle.heap_gate.proofs.Standing.{at_plain, at_prepared}
-use Rattle.heap_gate.proofs.Tokens.{Behind, IsBehind, Acted, acted, as_was, faced, marks, moved_by, at_behind, with_left, same_in_hand}
+use Rattle.heap_gate.proofs.Tokens.{Behind, Acted, acted, as_was, faced, marks, moved_by, at_behind, with_left, same_in_hand}
 use Rattle.lfh_spans.specs.Stores.{HasMade, reserving_in, made_with}
 
 ---- Entries that open nothing

@@ -8,12 +8,12 @@ use Rattle.heap_model.specs.declared.Act.TheVariants as acts
 use Rattle.heap_model.specs.declared.Call.{Call}
 use Rattle.heap_model.specs.declared.Entry.{Entry}
 use Rattle.heap_model.specs.State.{Setting, hands, updated}
-use Rattle.heap_model.specs.CallState.{Configuration, CallState, Search}
+use Rattle.heap_model.specs.CallState.{Configuration, CallState}
 use Rattle.heap_model.specs.Search.{asked_bucket, after_no_hint}
 use Rattle.heap_model.specs.Legal.{after, call_after, step_search}
 use Rattle.heap_model.specs.Agreement.{AgreesFor}
 use Rattle.claim_rule.specs.declared.views.View.{View}
-use Rattle.claim_rule.specs.Entries.{IsSettingOf, entry}
+use Rattle.claim_rule.specs.Entries.{entry}
 use Rattle.claim_rule.specs.Rule.{ready_after}
 use Rattle.claim_rule.specs.Plays.{Goes}
 use Rattle.claim_rule.proofs.Gate.{one_by}

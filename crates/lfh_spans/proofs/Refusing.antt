@@ -1,23 +1,22 @@
 -- Where a search is spent and the back end has no room, a caller may say so.
-use Rattle.std.proofs.Common.{◌≡◌, ℕ, ◌<◌, ◌==◌, Bool, true, false, not, ◌&&◌, ◌||◌, [], ◌∷◌, Option, Some, None, refl, sym, ap, ◌∙◌, subst, eq-eqb}
+use Rattle.std.proofs.Common.{◌≡◌, ℕ, ◌==◌, Bool, true, false, not, ◌&&◌, ◌||◌, [], ◌∷◌, Option, Some, refl, sym, ap, ◌∙◌, subst, eq-eqb}
 use Rattle.std.specs.Prelude.{is_some, is_none}
 use Rattle.std.proofs.lemmas.Bool.{and_from}
 use Rattle.heap_model.specs.declared.Act.TheVariants as acts
-use Rattle.heap_model.specs.declared.Opening.{Opening}
 use Rattle.heap_model.specs.declared.What.TheVariants as whats
 use Rattle.heap_model.specs.Buckets.{bucket_pages}
-use Rattle.heap_model.specs.State.{Setting, Area, BackPart, holds, is_entered}
+use Rattle.heap_model.specs.State.{BackPart, holds, is_entered}
 use Rattle.heap_model.specs.Backend.{back_place}
 use Rattle.heap_model.specs.Stay.{for_some, is_some_of}
 use Rattle.heap_model.specs.CallState.{Configuration, caller_view}
 use Rattle.heap_model.specs.Search.{request_of, search_key_of, is_spent}
 use Rattle.heap_model.specs.Legal.{may, may_act, meets_demand, fits_none}
 use Rattle.heap_model.specs.Agreement.{holds_old_block}
-use Rattle.claim_rule.specs.Entries.{IsSettingOf, entry, may_prepare}
+use Rattle.claim_rule.specs.Entries.{entry, may_prepare}
 use Rattle.claim_rule.proofs.Lists.{after-append}
 use Rattle.heap_model.specs.History.{configuration_of}
 use Rattle.heap_model.specs.Layers.{StandsForBack}
-use Rattle.backend_fit.specs.Kept.{Kept, area_of, layer_of}
+use Rattle.backend_fit.specs.Kept.{Kept, layer_of}
 use Rattle.heap_gate.specs.Calls.{with_prepared}
 use Rattle.heap_gate.specs.Token.{Token, Always, IsStanding, now, is_out}
 use Rattle.lfh_spans.specs.Subsegments.{IsBackOf, MayMake, HasNoRoom}

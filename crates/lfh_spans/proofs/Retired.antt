@@ -1,11 +1,10 @@
 -- A subsegment that goes back, step by step: its tag tells the bucket and the slot, its tags are cleared, and its Unspan comes with the store of the hint.
-use Rattle.std.proofs.Common.{◌≡◌, ℕ, ◌+◌, ◌*◌, ◌/◌, ◌%◌, ◌<◌, ◌≤◌, ◌==◌, Bool, true, false, not, ◌&&◌, List, [], ◌∷◌, length, Option, Some, None, refl, sym, ap, ◌∙◌, subst, arith, inl, inr, eqb}
+use Rattle.std.proofs.Common.{◌≡◌, ℕ, ◌+◌, ◌*◌, ◌/◌, ◌%◌, ◌<◌, ◌≤◌, ◌==◌, Bool, true, not, ◌&&◌, List, [], ◌∷◌, Option, Some, None, refl, sym, ap, ◌∙◌, subst, arith, inl, inr}
 use Rattle.std.specs.Prelude.{is_some, unwrap_or, option_map, if◌then◌else◌, nat_le, nat_lt, IfSome, IsSome}
 use Rattle.std.specs.List.{find}
 use Rattle.std.proofs.lemmas.Bool.{cases_Bool, and_parts, and_from, eqb-true, le-leb, lt-ltb, ltb-true, leb-true, false≢true}
 use Rattle.heap_model.specs.declared.Act.TheVariants as acts
 use Rattle.heap_model.specs.declared.Call.{Call}
-use Rattle.heap_model.specs.declared.Entry.{Entry}
 use Rattle.heap_model.specs.declared.Kind.{Kind}
 use Rattle.heap_model.specs.declared.Kind.TheVariants as kinds
 use Rattle.heap_model.specs.declared.Limits.{Limits}
@@ -22,7 +21,7 @@ use Rattle.heap_model.specs.Search.{spans_of, span_at, begins_at, first_of}
 use Rattle.heap_model.specs.Legal.{may, is_compact, may_unspan, may_unspan_of, is_unused, has_place, places_in, after}
 use Rattle.heap_model.specs.Geometry.{page_bytes}
 use Rattle.heap_model.specs.Layers.{StandsForBack}
-use Rattle.heap_model.specs.Agreement.{AgreesFor, SameHeap}
+use Rattle.heap_model.specs.Agreement.{AgreesFor}
 use Rattle.heap_model.proofs.ListLemmas.{for_some_parts}
 use Rattle.heap_model.proofs.Others.{agrees_trans}
 use Rattle.heap_model.proofs.Own.{act_agrees}
@@ -32,7 +31,7 @@ use Rattle.heap_soundness.proofs.Lists.{found_in, found_passes}
 use Rattle.heap_soundness.proofs.Spans.{same_span, above}
 use Rattle.claim_rule.specs.declared.views.Owed.{Owed}
 use Rattle.claim_rule.specs.Entries.{IsSettingOf, entry, setting_of}
-use Rattle.claim_rule.specs.Shown.{hint_word, owed_or, tag_of, tag_word, lfh_spans}
+use Rattle.claim_rule.specs.Shown.{hint_word, owed_or, tag_word, lfh_spans}
 use Rattle.claim_rule.proofs.Advance.{some_setting}
 use Rattle.step_parts.proofs.BlockWords.{in_lfh, into_lfh}
 use Rattle.step_parts.proofs.Tags.{tag_parts}
@@ -48,7 +47,7 @@ use Rattle.backend_fit.specs.Effects.{part_without, without_span, place_of}
 use Rattle.backend_fit.proofs.Told.{place_at_address, fills}
 use Rattle.data_words.proofs.Copying.{does_then, runs_then, none}
 use Rattle.heap_gate.specs.Token.{Token, Always, IsStanding, now, is_out}
-use Rattle.heap_gate.specs.Calls.{Does, Runs, Stands, stance}
+use Rattle.heap_gate.specs.Calls.{Runs, Stands, stance}
 use Rattle.lfh_spans.specs.Subsegments.{IsBackOf}
 use Rattle.lfh_spans.proofs.Joined.{HasBack, has_back_by, setting_of_old, still_held, hint_still, back_of_still}
 use Rattle.lfh_spans.proofs.Tagged.{spans_in_order, span_within, tag_in_order}

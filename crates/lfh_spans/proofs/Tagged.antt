@@ -1,17 +1,15 @@
 -- What the words of a new subsegment are in the state behind its first place: its tags, and the hint.
-use Rattle.std.proofs.Common.{◌≡◌, ℕ, zero, suc, length, ◌+◌, ◌-◌, ◌*◌, ◌/◌, ◌<◌, ◌≤◌, ◌==◌, Bool, true, false, ◌&&◌, List, [], ◌∷◌, Option, Some, None, refl, sym, ap, ◌∙◌, subst, arith, inl, inr, eq-eqb}
-use Rattle.std.specs.Prelude.{nat_lt, nat_le, unwrap_or, option_map, filter, map}
+use Rattle.std.proofs.Common.{◌≡◌, ℕ, zero, suc, length, ◌+◌, ◌-◌, ◌*◌, ◌/◌, ◌<◌, ◌≤◌, Bool, true, false, List, [], ◌∷◌, Option, Some, refl, sym, ap, ◌∙◌, subst, arith, inl, inr, eq-eqb}
+use Rattle.std.specs.Prelude.{nat_lt, nat_le, unwrap_or, option_map}
 use Rattle.std.specs.List.{find}
 use Rattle.std.proofs.lemmas.Bool.{cases_Bool, and_parts, and_from, leb-true, ltb-true, le-leb, lt-ltb}
-use Rattle.heap_model.specs.declared.Act.TheVariants as acts
-use Rattle.heap_model.specs.declared.Entry.{Entry}
 use Rattle.heap_model.specs.declared.Kind.TheVariants as kinds
 use Rattle.heap_model.specs.declared.Layer.TheVariants as layers
 use Rattle.heap_model.specs.declared.Run as real
 use Rattle.heap_model.specs.declared.What.TheVariants as whats
 use Rattle.heap_model.specs.Buckets.{bucket_pages, block_size, block_address, block_count}
 use Rattle.heap_model.specs.Marks.{lfh_mark}
-use Rattle.heap_model.specs.State.{Setting, Area, BackPart, GateAndLocks, Span, holds, insert_span, is_kind}
+use Rattle.heap_model.specs.State.{Setting, Area, BackPart, Span, holds, insert_span, is_kind}
 use Rattle.heap_model.specs.Backend.{in_span}
 use Rattle.heap_model.specs.CallState.{Configuration, SpanHistory}
 use Rattle.heap_model.specs.Legal.{with_span, is_lfh_over, hints_with, put_maker, span_history_placed}
@@ -23,14 +21,14 @@ use Rattle.page_ranges.specs.Words.{runs_of}
 use Rattle.page_ranges.specs.Ranges.{AreRuns}
 use Rattle.page_ranges.specs.Spans.{is_of_span, span_of, spans_in}
 use Rattle.serial_laws.specs.BackCalls.{one_more_reserved}
-use Rattle.claim_rule.specs.Shown.{lfh_spans, tag_of, tag_word, hint_word}
+use Rattle.claim_rule.specs.Shown.{lfh_spans, tag_of, tag_word}
 use Rattle.lfh_buckets.proofs.Seats.{block_end}
 use Rattle.step_parts.proofs.BlockWords.{in_lfh, into_lfh}
 use Rattle.span_steps.proofs.NewSubsegment.{in_inserted}
 use Rattle.backend_fit.specs.Kept.{Kept, area_of}
 use Rattle.backend_fit.specs.Sound.{IsSound}
 use Rattle.backend_fit.specs.Effects.{part_with, with_segment, marked_run}
-use Rattle.lfh_spans.specs.Stores.{AreTagged, reserving_in, made_with}
+use Rattle.lfh_spans.specs.Stores.{reserving_in, made_with}
 use Rattle.lfh_spans.proofs.Installing.{new_span}
 
 ---- Spans in order

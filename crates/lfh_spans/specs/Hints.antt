@@ -1,11 +1,10 @@
 -- What a caller reads of hints.
-use Rattle.std.specs.Prelude.{◌≡◌, ℕ, ◌+◌, ◌*◌, ◌<◌, true, [], ◌∷◌, Option, unwrap_or}
+use Rattle.std.specs.Prelude.{◌≡◌, ℕ, ◌*◌, ◌<◌, true, [], ◌∷◌, Option, unwrap_or}
 use Rattle.heap_model.specs.declared.Act.TheVariants as acts
 use Rattle.block_steps.specs.Searches.{IsHinted}
 use Rattle.claim_rule.specs.Places.{hint_at}
 use Rattle.claim_rule.specs.Shown.{hint_word, owed_or}
 use Rattle.claim_rule.specs.Entries.{entry, slot_at}
-use Rattle.step_parts.specs.Seen.{IsSeen}
 use Rattle.heap_gate.specs.Token.{Token, Always, now}
 use Rattle.heap_gate.specs.Calls.{Runs, Stands, stance}
 

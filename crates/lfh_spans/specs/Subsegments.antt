@@ -1,15 +1,15 @@
 -- Subsegments that the holder of Back makes and gives back.
-use Rattle.std.specs.Prelude.{◌≡◌, ℕ, ◌*◌, ◌/◌, ◌==◌, ◌&&◌, Bool, true, false, nat_lt, List, [], ◌∷◌, ◌++◌, Option, Some, None, if◌then◌else◌}
+use Rattle.std.specs.Prelude.{◌≡◌, ℕ, ◌/◌, ◌==◌, ◌&&◌, Bool, true, false, nat_lt, List, [], ◌∷◌, ◌++◌, Some, None, if◌then◌else◌}
 use Rattle.heap_model.specs.declared.Act.TheVariants as acts
 use Rattle.heap_model.specs.declared.Entry.{Entry}
 use Rattle.heap_model.specs.declared.Kind.TheVariants as kinds
 use Rattle.heap_model.specs.declared.Layer.TheVariants as layers
 use Rattle.heap_model.specs.declared.Mark.{Mark}
 use Rattle.heap_model.specs.Buckets.{bucket_pages, block_size, block_address}
-use Rattle.heap_model.specs.State.{Setting, Area, hands, is_kind}
+use Rattle.heap_model.specs.State.{Setting, Area, is_kind}
 use Rattle.heap_model.specs.Backend.{back_place}
 use Rattle.heap_model.specs.CallState.{Configuration, caller_view}
-use Rattle.heap_model.specs.Search.{SearchKey, request_of, search_key_of, is_spent, draw_of, own_block}
+use Rattle.heap_model.specs.Search.{request_of, search_key_of, is_spent, draw_of, own_block}
 use Rattle.heap_model.specs.History.{configuration_after}
 use Rattle.heap_model.specs.Layers.{StandsForBack}
 use Rattle.heap_model.specs.Agreement.{AgreesFor, holds_old_block}
@@ -18,7 +18,7 @@ use Rattle.span_steps.specs.Installs.{making}
 use Rattle.step_parts.specs.InHand.{HasBlock}
 use Rattle.backend_fit.specs.Kept.{Kept, area_of, layer_of}
 use Rattle.heap_gate.specs.Token.{Token, Always, now}
-use Rattle.heap_gate.specs.Calls.{Does, Stands, stance, with_prepared}
+use Rattle.heap_gate.specs.Calls.{Does, Stands, stance}
 use Rattle.lfh_spans.specs.Hints.{own_slot}
 
 -- the state stands for what the back end has in all that the caller has seen and prepared

@@ -216,8 +216,8 @@ pub fn clear_tags<T: Stands>(heap: &Heap<T>, c: &mut Caller<T>, at: Subsegment)
 {
     c.check();
     let _bounds = heap.limits();
-    for done in 0..at.pages {
-        clear_tag(heap, c, at.head + done);
+    for cleared in 0..at.pages {
+        clear_tag(heap, c, at.head + cleared);
     }
 }
 

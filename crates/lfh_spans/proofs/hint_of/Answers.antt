@@ -1,25 +1,18 @@
-use Rattle.std.proofs.Common.{◌≡◌, ℕ, ◌∙◌, true, List, [], ◌∷◌, sym, subst, ap, arith, ◌+◌, ◌*◌, ◌<◌, ◌==◌, ◌||◌, not, Bool, Some, None, refl, inl, inr}
+use Rattle.std.proofs.Common.{◌≡◌, ℕ, ◌∙◌, true, [], ◌∷◌, sym, subst, ap, arith, ◌==◌, inl, inr}
 use Rattle.random_pick.specs.CallerDraws.{words_of}
-use Rattle.claim_rule.specs.declared.views.Owed.{Owed}
-use Rattle.claim_rule.specs.Places.{tag_at, hint_at}
 use Rattle.claim_rule.specs.Rule.{ready_after}
-use Rattle.claim_rule.specs.Shown.{lfh_spans, tag_word, hint_word}
-use Rattle.heap_model.specs.State.{Setting, holds}
-use Rattle.heap_model.specs.CallState.{Configuration}
-use Rattle.heap_model.specs.declared.What.TheVariants as whats
-use Rattle.heap_gate.specs.Token.{Token, Always, now, outs, is_out}
+use Rattle.heap_gate.specs.Token.{Token, Always, now}
 use Rattle.heap_gate.specs.Seated.{Face, tok}
-use Rattle.heap_gate.specs.Calls.{Runs, Stands, stance}
-use Rattle.heap_gate.proofs.Tokens.{as_was, faced, goes_by, may_by, with_left}
-use Rattle.span_steps.specs.Stores.{paid_off, owed_zero}
-use Rattle.lfh_spans.proofs.Quiet.{quiet, quiet_runs, has_back}
-use Rattle.std.specs.Prelude.{Option, if◌then◌else◌, IfSome, IfNone}
+use Rattle.heap_gate.specs.Calls.{Runs}
+use Rattle.heap_gate.proofs.Tokens.{as_was, faced, goes_by, with_left}
+use Rattle.lfh_spans.proofs.Quiet.{quiet, quiet_runs}
+use Rattle.std.specs.Prelude.{Option, IfSome, IfNone}
 use Rattle.std.proofs.lemmas.Bool.{cases_Bool, eqb-true, eqb-false}
 use Rattle.heap_model.specs.Limits.{AreValid}
 use Rattle.heap_model.specs.declared.Opening.{Opening}
 use Rattle.heap_model.specs.declared.Act.TheVariants as acts
 use Rattle.heap_model.specs.History.{configuration_of}
-use Rattle.claim_rule.specs.Entries.{IsSettingOf, entry, setting_of}
+use Rattle.claim_rule.specs.Entries.{entry, setting_of}
 use Rattle.claim_rule.specs.Plays.{number_of}
 use Rattle.claim_rule.proofs.Advance.{some_setting}
 use Rattle.block_steps.specs.Searches.{MayHint, IsHinted}

@@ -1,18 +1,9 @@
-use Rattle.std.proofs.Common.{◌≡◌, ℕ, ◌+◌, ◌*◌, ◌<◌, ◌≤◌, length, refl, sym, ap, ◌∙◌, subst, arith}
+use Rattle.std.proofs.Common.{ℕ, ◌<◌, sym, ap, ◌∙◌, subst, arith}
 use Rattle.heap_model.specs.Limits.{AreValid}
 use Rattle.heap_model.specs.declared.Opening.{Opening}
-use Rattle.heap_model.specs.declared.Limits.{Limits}
-use Rattle.heap_model.specs.declared.Mark.{Mark}
-use Rattle.heap_model.specs.Buckets.{bucket_pages, block_count, block_address}
-use Rattle.heap_model.specs.Marks.{lfh_mark}
-use Rattle.heap_model.specs.Backend.{back_place}
 use Rattle.page_region.specs.Held.{Held}
-use Rattle.heap_gate.specs.Token.{Token, Always, now}
-use Rattle.heap_gate.specs.Calls.{Runs, Stands, stance}
-use Rattle.backend_fit.specs.Kept.{Kept, Becomes, area_of}
-use Rattle.backend_fit.specs.Effects.{part_with, marked_run}
-use Rattle.lfh_spans.specs.Stores.{HasMade, reserving_in, paid_tags}
-use Rattle.lfh_spans.specs.Subsegments.{IsBackOf, drawn_block}
+use Rattle.backend_fit.specs.Kept.{Kept}
+use Rattle.lfh_spans.specs.Subsegments.{IsBackOf}
 use Rattle.lfh_spans.proofs.Installed.{Looked, installs_by, within_by, tags_by, hint_by, back_by, installed_by, pages_some}
 use Rattle.lfh_spans.proofs.Drawn.{own_fits}
 use Rattle.lfh_spans.proofs.install_again.Goals as goal

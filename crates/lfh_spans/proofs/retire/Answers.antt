@@ -1,6 +1,6 @@
-use Rattle.std.proofs.Common.{◌≡◌, ◌+◌, ◌*◌, ◌<◌, ◌≤◌, ap, sym, ◌∙◌, subst, ℕ}
+use Rattle.std.proofs.Common.{◌+◌, ◌*◌, ◌≤◌, sym, ◌∙◌, subst}
 use Rattle.heap_model.specs.declared.Opening.{Opening}
-use Rattle.lfh_spans.proofs.Retired.{IsOfTag, gives_some, page_small, pages_small, of_tag, retires, retired_runs, retired_stands, retired_back}
+use Rattle.lfh_spans.proofs.Retired.{gives_some, page_small, pages_small, of_tag, retires, retired_runs, retired_stands, retired_back}
 use Rattle.lfh_spans.proofs.retire.Goals as goal
 
 pub look_tag-tag-requires-clause-page : goal.look_tag-tag-requires-clause-page

@@ -1,4 +1,4 @@
-use Rattle.std.proofs.Common.{◌≡◌, ℕ, ◌<◌, sym, subst, ap}
+use Rattle.std.proofs.Common.{◌≡◌, ℕ, sym, subst}
 use Rattle.claim_rule.specs.Places.{hint_at}
 use Rattle.claim_rule.specs.Shown.{hint_word}
 use Rattle.span_steps.specs.Stores.{paid_off}

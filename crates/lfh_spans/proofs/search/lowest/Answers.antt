@@ -1,11 +1,11 @@
-use Rattle.std.proofs.Common.{◌≡◌, ◌<◌, unwrap_or, ℕ, ◌+◌, length, arith, sym, ap, subst, ◌∙◌, Option, List}
+use Rattle.std.proofs.Common.{◌<◌, unwrap_or, ℕ, length, arith, sym, ap, subst, ◌∙◌, Option, List}
 use Rattle.heap_model.specs.Search.{first_of, is_span_of}
 use Rattle.std.specs.Prelude.{filter}
 use Rattle.page_ranges.specs.Words.{runs_of}
 use Rattle.page_ranges.specs.Spans.{spans_in}
 use Rattle.page_ranges.specs.Ranges.{IsWhole}
 use Rattle.page_ranges.proofs.Runs.{Step, step_at}
-use Rattle.lfh_spans.proofs.Lowest.{found, passed, none_left}
+use Rattle.lfh_spans.proofs.Lowest.{found, passed}
 use Rattle.lfh_spans.proofs.search.lowest.Goals as goal
 use Rattle.lfh_spans.proofs.search.lowest.Goals.{After-run_at-run}
 

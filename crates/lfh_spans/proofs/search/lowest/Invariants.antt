@@ -1,4 +1,4 @@
-use Rattle.std.proofs.Common.{◌≡◌, ◌-◌}
+use Rattle.std.proofs.Common.{◌-◌}
 use Rattle.lfh_spans.proofs.Lowest.{IsAbove}
 use Rattle.lfh_spans.proofs.search.lowest.Given as goal
 

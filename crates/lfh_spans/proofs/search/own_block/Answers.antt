@@ -1,7 +1,6 @@
-use Rattle.std.proofs.Common.{◌<◌, ◌≡◌, ◌+◌, ◌*◌, ◌/◌, ◌%◌, ℕ, ◌∙◌, arith, subst, sym}
+use Rattle.std.proofs.Common.{◌<◌, ℕ, ◌∙◌, arith, subst, sym}
 use Rattle.heap_model.specs.Buckets.{block_count}
 use Rattle.lfh_spans.proofs.Drawn.{in_use_is, add_zero_mod, word_below, own_is, own_fits}
-use Rattle.lfh_spans.specs.Subsegments.{drawn_block}
 use Rattle.lfh_spans.proofs.search.own_block.Goals as goal
 
 pub valid_bits-requires-clause-word : goal.valid_bits-requires-clause-word

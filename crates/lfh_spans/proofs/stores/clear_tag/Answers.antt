@@ -1,22 +1,13 @@
-use Rattle.std.proofs.Common.{◌≡◌, ℕ, ◌∙◌, true, List, [], ◌∷◌, sym, subst, ap, arith}
+use Rattle.std.proofs.Common.{◌≡◌, ◌∙◌, true, [], subst, ap}
 use Rattle.random_pick.specs.CallerDraws.{words_of}
-use Rattle.claim_rule.specs.declared.views.Owed.{Owed}
-use Rattle.claim_rule.specs.Places.{tag_at, hint_at}
-use Rattle.claim_rule.specs.Rule.{ready_after}
-use Rattle.claim_rule.specs.Shown.{lfh_spans, tag_word, hint_word}
-use Rattle.heap_model.specs.State.{Setting, holds}
-use Rattle.heap_model.specs.CallState.{Configuration}
+use Rattle.claim_rule.specs.Places.{tag_at}
+use Rattle.heap_model.specs.State.{holds}
 use Rattle.heap_model.specs.declared.What.TheVariants as whats
-use Rattle.heap_gate.specs.Token.{Token, Always, now, outs, is_out}
+use Rattle.heap_gate.specs.Token.{Token, is_out}
 use Rattle.heap_gate.specs.Seated.{Face, tok}
 use Rattle.heap_gate.specs.Calls.{Runs, Stands, stance}
-use Rattle.heap_gate.proofs.Tokens.{as_was, faced, goes_by, may_by, with_left}
-use Rattle.span_steps.specs.Stores.{paid_off, owed_zero}
-use Rattle.lfh_spans.specs.Stores.{AreTagged}
-use Rattle.lfh_spans.specs.Hints.{own_slot}
-use Rattle.claim_rule.specs.Plays.{number_of}
-use Rattle.heap_model.specs.History.{configuration_of}
-use Rattle.look_steps.specs.Looks.{IsHintWord, IsTagWord}
+use Rattle.heap_gate.proofs.Tokens.{as_was, faced, goes_by, may_by}
+use Rattle.span_steps.specs.Stores.{owed_zero}
 use Rattle.lfh_spans.proofs.Quiet.{quiet, quiet_runs, has_back}
 use Rattle.lfh_spans.proofs.stores.clear_tag.Goals as goal
 

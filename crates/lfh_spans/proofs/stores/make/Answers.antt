@@ -1,29 +1,20 @@
-use Rattle.std.proofs.Common.{◌≡◌, ℕ, ◌/◌, ◌++◌, ◌∙◌, true, List, [], ◌∷◌, sym, subst, ap, arith}
+use Rattle.std.proofs.Common.{ℕ, ◌/◌, ◌++◌, ◌∙◌, [], ◌∷◌, sym, subst, ap}
 use Rattle.random_pick.specs.CallerDraws.{words_of}
-use Rattle.claim_rule.specs.declared.views.Owed.{Owed}
-use Rattle.claim_rule.specs.Places.{tag_at, hint_at}
 use Rattle.claim_rule.specs.Rule.{ready_after}
-use Rattle.claim_rule.specs.Shown.{lfh_spans, tag_word, hint_word}
-use Rattle.heap_model.specs.State.{Setting, holds}
-use Rattle.heap_model.specs.CallState.{Configuration}
-use Rattle.heap_model.specs.declared.What.TheVariants as whats
-use Rattle.heap_gate.specs.Token.{Token, Always, now, outs, is_out}
+use Rattle.heap_model.specs.State.{Setting}
+use Rattle.heap_gate.specs.Token.{Token, Always, now}
 use Rattle.heap_gate.specs.Seated.{Face, tok}
-use Rattle.heap_gate.specs.Calls.{Runs, Stands, stance}
-use Rattle.heap_gate.proofs.Tokens.{as_was, faced, goes_by, may_by, with_left}
-use Rattle.span_steps.specs.Stores.{paid_off, owed_zero}
-use Rattle.lfh_spans.proofs.Quiet.{quiet, quiet_runs, has_back}
+use Rattle.heap_gate.proofs.Tokens.{faced, goes_by}
 use Rattle.claim_rule.specs.Plays.{number_of}
 use Rattle.claim_rule.specs.Entries.{entry, IsSettingOf}
 use Rattle.heap_model.specs.declared.Act.TheVariants as acts
 use Rattle.heap_model.specs.declared.Layer.TheVariants as layers
 use Rattle.heap_model.specs.History.{configuration_of}
 use Rattle.heap_model.specs.Buckets.{block_size, block_address}
-use Rattle.span_steps.specs.Installs.{MayInstall, IsReserving, making, owed_by_install}
-use Rattle.span_steps.specs.Retires.{MayRetire, owed_by_retire}
+use Rattle.span_steps.specs.Installs.{MayInstall, IsReserving, making}
 use Rattle.step_parts.specs.InHand.{HasBlock}
 use Rattle.lfh_spans.specs.Stores.{reserving_in, HasMade}
-use Rattle.lfh_spans.proofs.Making.{reserves, behind_make, is_made, has_made, is_given_up, gives_up}
+use Rattle.lfh_spans.proofs.Making.{reserves, behind_make, is_made, has_made}
 use Rattle.lfh_spans.proofs.stores.make.Goals as goal
 
 pub install_by-requires-clause-reserve : goal.install_by-requires-clause-reserve

@@ -1,6 +1,5 @@
-use Rattle.std.proofs.Common.{◌≡◌, ◌-◌, ◌+◌, true, false, []}
+use Rattle.std.proofs.Common.{◌≡◌, ◌-◌, []}
 use Rattle.heap_gate.specs.Calls.{Runs, Stands, stance}
-use Rattle.span_steps.specs.Installs.{owed_tags}
 use Rattle.lfh_spans.specs.Stores.{paid_tags}
 use Rattle.lfh_spans.proofs.stores.tag_pages.Given as goal
 
