@@ -75,18 +75,28 @@ fills head bits (i ∷ is) = hits head bits i ∷ fills head (bits + 2 ^ i) is
 abbrev pub frees : ℕ → Told
 frees a = record { call = calls.Free a; reply = replies.Done; rest = acts.Enter ∷ acts.Take a 256 ∷ acts.Drop a ∷ acts.Leave ∷ [] }
 
--- Seventeen blocks make the bucket due. The next fifteen fill a span at page 18, and fifteen more one at page 19, which is the hint. In
--- between, two blocks of the first are freed.
+-- Fifteen blocks fill a span at page 19, which is the hint. Behind the first, two blocks of the span before are freed.
+abbrev pub second_span : List Told
+second_span =
+    allocates (block_at 19 0) (acts.Enter ∷ acts.Saw 18 0 32767 ∷ acts.TakeLock whats.Back ∷ acts.Saw 18 0 32767 ∷ acts.Span 19 1 kinds.Lfh 16 0 ∷ acts.Place (block_at 19 0) 16 layers.Lfh
+    ∷ acts.Give (block_at 19 0) 256 ∷ acts.GiveLock whats.Back ∷ acts.Leave ∷ [])
+    ∷ frees (block_at 18 0) ∷ frees (block_at 18 1) ∷ fills 19 1 (1 ∷ 2 ∷ 3 ∷ 4 ∷ 5 ∷ 6 ∷ 7 ∷ 8 ∷ 9 ∷ 10 ∷ 11 ∷ 12 ∷ 13 ∷ 14 ∷ [])
+
+-- Before, fifteen fill one at page 18: the bucket becomes active, and its blocks are drawn in this order.
+abbrev pub drawn_first : List ℕ
+drawn_first = 1 ∷ 2 ∷ 10 ∷ 3 ∷ 4 ∷ 5 ∷ 6 ∷ 7 ∷ 8 ∷ 9 ∷ 11 ∷ 12 ∷ 13 ∷ 14 ∷ []
+
+abbrev pub spans_then : List Told
+spans_then =
+    allocates (block_at 18 0) (acts.Enter ∷ acts.TakeLock whats.Vs ∷ acts.Active 16 ∷ acts.GiveLock whats.Vs ∷ acts.NoHint 16 0 ∷ acts.TakeLock whats.Back ∷ acts.Span 18 1 kinds.Lfh 16 0
+    ∷ acts.Place (block_at 18 0) 16 layers.Lfh ∷ acts.Give (block_at 18 0) 256 ∷ acts.GiveLock whats.Back ∷ acts.Leave ∷ [])
+    ∷ (fills 18 1 drawn_first ++ second_span)
+
+-- And before that, seventeen in the variable-size layer make the bucket due.
 abbrev pub two_spans : List Told
 two_spans =
     allocates 8256 (acts.Enter ∷ acts.TakeLock whats.Vs ∷ acts.TakeLock whats.Back ∷ acts.Reserve 0 ∷ acts.Span 2 16 kinds.Vs 0 0 ∷ acts.Place 8240 17 layers.Vs ∷ acts.GiveLock whats.Back ∷ acts.Give 8256 256 ∷ acts.GiveLock whats.Vs ∷ acts.Leave ∷ [])
-    ∷ (map in_gap (numbers 1 16)
-    ++ allocates (block_at 18 0) (acts.Enter ∷ acts.TakeLock whats.Vs ∷ acts.Active 16 ∷ acts.GiveLock whats.Vs ∷ acts.NoHint 16 0 ∷ acts.TakeLock whats.Back ∷ acts.Span 18 1 kinds.Lfh 16 0
-    ∷ acts.Place (block_at 18 0) 16 layers.Lfh ∷ acts.Give (block_at 18 0) 256 ∷ acts.GiveLock whats.Back ∷ acts.Leave ∷ [])
-    ∷ fills 18 1 (1 ∷ 2 ∷ 10 ∷ 3 ∷ 4 ∷ 5 ∷ 6 ∷ 7 ∷ 8 ∷ 9 ∷ 11 ∷ 12 ∷ 13 ∷ 14 ∷ [])
-    ++ allocates (block_at 19 0) (acts.Enter ∷ acts.Saw 18 0 32767 ∷ acts.TakeLock whats.Back ∷ acts.Saw 18 0 32767 ∷ acts.Span 19 1 kinds.Lfh 16 0 ∷ acts.Place (block_at 19 0) 16 layers.Lfh
-    ∷ acts.Give (block_at 19 0) 256 ∷ acts.GiveLock whats.Back ∷ acts.Leave ∷ [])
-    ∷ frees (block_at 18 0) ∷ frees (block_at 18 1) ∷ fills 19 1 (1 ∷ 2 ∷ 3 ∷ 4 ∷ 5 ∷ 6 ∷ 7 ∷ 8 ∷ 9 ∷ 10 ∷ 11 ∷ 12 ∷ 13 ∷ 14 ∷ []))
+    ∷ (map in_gap (numbers 1 16) ++ spans_then)
 
 abbrev pub filled : Configuration
 filled = configuration_by one first_configuration (acts_of_all two_spans)
