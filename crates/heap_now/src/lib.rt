@@ -1,0 +1,20 @@
+//! The heap over the table that callers share: it is opened here, and each call of a caller is made here, from its Begin to its
+//! answer.
+//!
+//! A call enters, does its part under the locks that this asks, and leaves. None waits: where another caller is in the way, the
+//! call ends, and answers `Busy`.
+#![tactic(auto)]
+
+mod open;
+
+pub use call_parts::State;
+pub use open::open_heap;
+
+/// A heap that threads share.
+pub type Heap = heap_gate::Heap<State>;
+
+/// What makes its callers, and takes them in again.
+pub type Root = heap_gate::Root<State>;
+
+/// One of its callers.
+pub type Caller = heap_gate::Caller<State>;
