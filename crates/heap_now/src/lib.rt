@@ -6,6 +6,8 @@
 #![tactic(auto)]
 
 mod open;
+#[cfg(test)]
+mod tests;
 
 pub use call_parts::State;
 pub use open::open_heap;
