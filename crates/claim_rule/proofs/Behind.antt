@@ -6,10 +6,11 @@ use Rattle.heap_model.specs.State.{Area, gate_word, caller_word, Span, Place, Lo
 use Rattle.heap_model.specs.CallState.{Configuration, SpanHistory}
 use Rattle.claim_rule.specs.declared.views.Owed.{Owed}
 use Rattle.claim_rule.specs.Places.{word_count, lock_at, IsLayerLock}
-use Rattle.claim_rule.specs.Shown.{lfh_spans, flag, bitmap_word, size_word, owed_or, tag_word, hint_word, HintsAreHeads, MayBeOld, AreAllShown, are_made_by, is_head, LfhShown}
-use Rattle.std.specs.Prelude.{Bool}
+use Rattle.claim_rule.specs.Shown.{lfh_spans, flag, bitmap_word, size_word, owed_or, tag_word, hint_word, HasMaker, MayWantTag, HintsAreHeads, MayBeOld, AreAllShown, are_made_by, is_head, LfhShown}
+use Rattle.std.specs.Prelude.{Bool, is_some}
 use Rattle.heap_model.specs.declared.What.{What}
 use Rattle.claim_rule.proofs.Quiet.{SameShown, same_shown}
+use Rattle.claim_rule.proofs.Wanting.{KeepsOwner}
 use Rattle.claim_rule.proofs.Words.{hint_same, lfh_same}
 use Rattle.claim_rule.proofs.LockWords.{same_what, words_apart, lock_low, holder_here, holder_else}
 
@@ -28,10 +29,10 @@ becomes words i v j new old lt b h = elim (cases_Bool (eqb i j)) [
   | inr e ↦ let k = eqb-false i j e in get_or-set_other words i j v 0 (λ z. k (sym z)) ∙ (h ∙ sym (b.else k))
 ]
 
--- What readers of tags and hints go by: a tag that is owed is 0, and a hint that is owed may be old.
+-- What readers of tags and hints go by: a tag that is owed is 0 and may be wanted, and a hint that is owed may be old.
 pub record IsOwedSoundly (l : Limits) (m : Configuration) (owes : List Owed) : Type 0 where
   pub tags : (page : ℕ) → page < 256 * l.segments
-      → (owed_or owes (2182 + page) (tag_word (lfh_spans m.state.back.area) page) ≡ tag_word (lfh_spans m.state.back.area) page) ⊎ (owed_or owes (2182 + page) (tag_word (lfh_spans m.state.back.area) page) ≡ 0)
+      → (owed_or owes (2182 + page) (tag_word (lfh_spans m.state.back.area) page) ≡ tag_word (lfh_spans m.state.back.area) page) ⊎ ((owed_or owes (2182 + page) (tag_word (lfh_spans m.state.back.area) page) ≡ 0) × MayWantTag m page)
   pub heads : HintsAreHeads m
   pub hints : (b t : ℕ) → 1 ≤ b → b ≤ 128 → t < 16
       → (owed_or owes (118 + 16 * b + t) (hint_word m.state.back.area m.now.span_history b t) ≡ hint_word m.state.back.area m.now.span_history b t)
@@ -41,7 +42,7 @@ pub record IsOwedSoundly (l : Limits) (m : Configuration) (owes : List Owed) : T
 -- where the words of the front end are shown, readers may go by them
 pub owed_by_front : (l : Limits) (m : Configuration) (owes : List Owed) (words : List ℕ) → LfhShown l m owes words → IsOwedSoundly l m owes
 owed_by_front l m owes words h = record {
-  tags = λ page lt. let k = h.tags page lt in ⊎_elim (λ (z : get_or words (2182 + page) 0 ≡ tag_word (lfh_spans m.state.back.area) page). inl (sym k.0 ∙ z)) (λ (z : get_or words (2182 + page) 0 ≡ 0). inr (sym k.0 ∙ z)) k.1;
+  tags = λ page lt. let k = h.tags page lt in ⊎_elim (λ (z : get_or words (2182 + page) 0 ≡ tag_word (lfh_spans m.state.back.area) page). inl (sym k.0 ∙ z)) (λ (z : (get_or words (2182 + page) 0 ≡ 0) × MayWantTag m page). inr (sym k.0 ∙ z.0, z.1)) k.1;
   heads = h.heads;
   hints = λ b t low high few.
       let k = h.hints b t low high few in
@@ -107,7 +108,7 @@ shown_with l made' made m' m owes' owes words i v high c b f h =
           tag page lp,
           ⊎_elim
               (λ (z : owed_or owes' (2182 + page) (tag_word (lfh_spans m'.state.back.area) page) ≡ tag_word (lfh_spans m'.state.back.area) page). inl (tag page lp ∙ z))
-              (λ (z : owed_or owes' (2182 + page) (tag_word (lfh_spans m'.state.back.area) page) ≡ 0). inr (tag page lp ∙ z))
+              (λ (z : (owed_or owes' (2182 + page) (tag_word (lfh_spans m'.state.back.area) page) ≡ 0) × MayWantTag m' page). inr (tag page lp ∙ z.0, z.1))
               (f.tags page lp),
         );
         heads = f.heads;
@@ -157,13 +158,13 @@ low_behind l m' m owes i v lt r gate locks = record {
 }
 
 -- the gate word is written, and the locks stay
-pub all_gate : (l : Limits) (made : ℕ) (m n : Configuration) (owes : List Owed) (words : List ℕ) (y : ℕ) → SameShown m n → m.state.gate.locks ≡ n.state.gate.locks
+pub all_gate : (l : Limits) (made : ℕ) (m n : Configuration) (owes : List Owed) (words : List ℕ) (y : ℕ) → SameShown m n → m.state.gate.locks ≡ n.state.gate.locks → KeepsOwner m n
     → y ≡ gate_word m.state.gate → AreAllShown l made n owes words → AreAllShown l made m owes (set words 1 y)
-all_gate l made m n owes words y r e w h =
+all_gate l made m n owes words y r e owned w h =
     let back = ap (λ (k : Locks). k.back) e in
     shown_behind l made m n owes owes words 1 y (omega arith) (omega arith)
     (low_behind l m n owes 1 y (omega arith) (same_front m n r back h.lfh.heads) (record { here = λ _. w; else = λ k. absurd (k refl) }) (locks_stay 1 y m.state.gate.locks n.state.gate.locks (inl (omega arith)) e))
-    (owed_by_front l m owes words (lfh_same m n r back l owes words h.lfh)) h
+    (owed_by_front l m owes words (lfh_same m n r back owned l owes words h.lfh)) h
 
 -- one caller more is counted
 pub all_made : (l : Limits) (made : ℕ) (m : Configuration) (owes : List Owed) (words : List ℕ) (y : ℕ) → AreAllShown l made m owes words → AreAllShown l y m owes (set words 0 y)
@@ -181,15 +182,21 @@ heads_on m' m area hints h b t first e = ap (λ (a : Area). is_head a b t first)
 pub none_owed : (l : Limits) (m' m : Configuration) (owes : List Owed) → m'.state.back.area ≡ m.state.back.area → ((b t : ℕ) → m'.now.span_history.hints b t ≡ m.now.span_history.hints b t) → owes ≡ [] → HintsAreHeads m → IsOwedSoundly l m' owes
 none_owed l m' m owes area hints e h = subst (IsOwedSoundly l m') (sym e) (record { tags = λ page lp. inl refl; heads = heads_on m' m area hints h; hints = λ b t lx hx ft. inl refl; paid = λ z. refl })
 
--- the heap is the same, and Back is held as it was
-pub still_owed : (l : Limits) (m' m : Configuration) (owes : List Owed) → m'.state.back.area ≡ m.state.back.area → m'.now.span_history ≡ m.now.span_history → m'.state.gate.locks.back ≡ m.state.gate.locks.back → IsOwedSoundly l m owes → IsOwedSoundly l m' owes
-still_owed l m' m owes area history back f = record {
-  tags = λ page lp. subst (λ (a : Area). (owed_or owes (2182 + page) (tag_word (lfh_spans a) page) ≡ tag_word (lfh_spans a) page) ⊎ (owed_or owes (2182 + page) (tag_word (lfh_spans a) page) ≡ 0)) (sym area) (f.tags page lp);
+-- the heap is the same, and Back and the heap lock are held as they were
+pub still_owed : (l : Limits) (m' m : Configuration) (owes : List Owed) → m'.state.back.area ≡ m.state.back.area → m'.now.span_history ≡ m.now.span_history → m'.state.gate.locks.back ≡ m.state.gate.locks.back → m'.state.gate.owner ≡ m.state.gate.owner
+    → IsOwedSoundly l m owes → IsOwedSoundly l m' owes
+still_owed l m' m owes area history back owner f = record {
+  tags = λ page lp. subst (λ (z : Area × SpanHistory × Option ℕ). Wanted z.0 z.1 z.2 page) (λ i. (sym area i, sym history i, sym owner i)) (f.tags page lp);
   heads = heads_on m' m area (λ b t. ap (λ (r : SpanHistory). r.hints b t) history) f.heads;
   hints = λ b t lx hx ft. subst (λ (z : Area × SpanHistory × Option ℕ). Old z.0 z.1 z.2 b t) (λ i. (sym area i, sym history i, sym back i)) (f.hints b t lx hx ft);
   paid = λ e. f.paid (sym back ∙ e);
 }
   where
+    Wanted : Area → SpanHistory → Option ℕ → ℕ → Type 0
+    Wanted a r own page =
+        (owed_or owes (2182 + page) (tag_word (lfh_spans a) page) ≡ tag_word (lfh_spans a) page)
+        ⊎ ((owed_or owes (2182 + page) (tag_word (lfh_spans a) page) ≡ 0) × ((is_some own ≡ true) ⊎ HasMaker a r page))
+
     Old : Area → SpanHistory → Option ℕ → ℕ → ℕ → Type 0
     Old a r h b t =
         (owed_or owes (118 + 16 * b + t) (hint_word a r b t) ≡ hint_word a r b t)

@@ -195,7 +195,7 @@ module _ {T : Type 0} (stands : T → LayerState) (o : Opening) where
       let y : (x + 1) % 18446744073709551616 ≡ x + 1 = omega arith in (
         one_follows s m n (gate_act n x) b.whole (for_some_is (m.now.calls n).call _ p.call) (enter_may s m n x p is lt),
         d.demand,
-        all_gate o.limits r.lead.counted (after s m (entry n (gate_act n x))) m _ st.words ((x + 1) % 2 ^ 64) d.shown d.locks (y ∙ word) b.words,
+        all_gate o.limits r.lead.counted (after s m (entry n (gate_act n x))) m _ st.words ((x + 1) % 2 ^ 64) d.shown d.locks (inl (λ own. ap is_some d.owner ∙ own)) (y ∙ word) b.words,
         homes_kept stands o (after s m (entry n (gate_act n x))).state m.state st.homes d.homes b.home,
       )) in
       (a.0, keeps, tt, a.1, (subst (λ (k : ℕ). Adds es (gate_act k x) me (a.0, me.1)) (sym (ap number_of h.role)) (adds_of me (a.0, me.1) n es (gate_act n x) h.role a.2), refl, a.3))
@@ -217,7 +217,7 @@ module _ {T : Type 0} (stands : T → LayerState) (o : Opening) where
         one_follows s m n acts.Leave b.whole p.begun p.may,
         refl,
         all_gate o.limits r.lead.counted (after s m (entry n acts.Leave)) m _ st.words ((x + 18446744073709551615) % 18446744073709551616)
-            (record { lfh = refl; words = refl; active = refl; spans = refl; hints = λ k b t. refl; makers = λ f k. refl }) refl y b.words,
+            (record { lfh = refl; words = refl; active = refl; spans = refl; hints = λ k b t. refl; makers = λ f k. refl }) refl (inl (λ own. own)) y b.words,
         homes_kept stands o (after s m (entry n acts.Leave)).state m.state st.homes (homes_still _ _ refl refl) b.home,
       )) in
       (a.0, keeps, tt, a.1, (adds_of me (a.0, me.1) n es acts.Leave h.role a.2, refl, a.3))

@@ -1,7 +1,7 @@
 -- The laws of the heap lock: take it, or find a gate word that is not 0; give it back.
-use Rattle.std.proofs.Common.{◌≡◌, ℕ, ◌+◌, ◌-◌, ◌*◌, ◌%◌, ◌^◌, ◌<◌, Bool, true, not, ◌&&◌, ◌==◌, cond, List, [], ◌∷◌, get_or, refl, sym, ap, ◌∙◌, subst, arith, Option, Some, None, eq-eqb, ne_eqb, eqb}
+use Rattle.std.proofs.Common.{◌≡◌, ℕ, ◌+◌, ◌-◌, ◌*◌, ◌%◌, ◌^◌, ◌<◌, Bool, true, false, not, ◌&&◌, ◌==◌, cond, List, [], ◌∷◌, get_or, refl, sym, ap, ◌∙◌, subst, arith, Option, Some, None, inl, inr, eq-eqb, ne_eqb, eqb}
 use Rattle.std.specs.Prelude.{is_some}
-use Rattle.std.proofs.lemmas.Bool.{and_parts, and_from, eqb-true, false≢true}
+use Rattle.std.proofs.lemmas.Bool.{and_parts, and_from, eqb-true, false≢true, not-true}
 use mathlib.Core.Option.{none, some}
 use lib.ListN.{get_elem?}
 use prog.Atomic.{either}
@@ -27,6 +27,7 @@ use Rattle.claim_rule.specs.Steps.{MayTryLock, MayGiveUp}
 use Rattle.claim_rule.specs.Plays.{Adds, locked, unlocked}
 use Rattle.claim_rule.proofs.Slots.{homes_still, homes_kept}
 use Rattle.claim_rule.proofs.Behind.{all_gate}
+use Rattle.claim_rule.proofs.Wanting.{free_beside}
 use Rattle.claim_rule.proofs.Words.{all_kept, all_same}
 use Rattle.claim_rule.proofs.Advance.{before, acts, adds_of, setting_in, role_of}
 use Rattle.claim_rule.proofs.Gate.{one_by, one_follows, for_some_is}
@@ -65,6 +66,10 @@ blocked_ok s m n x p is z =
     (for_some_if (m.now.calls n).call is_lock_or_compact (λ call. not (caller_view m n).owns && not (x == 0)) _ p.call
     (λ call. and_from (not (caller_view m n).owns) (not (x == 0)) (ap not p.owns) (ap not (ne_eqb x 0 z))))
 
+-- who holds no lock does not hold Back
+no_back : (v : CallerView) → holds_none v ≡ true → v.back ≡ false
+no_back v h = not-true v.back (and_parts (not v.lfh && not v.vs) (not v.back) (and_parts (not v.lfh && not v.vs && not v.back) (not v.large) h).0).1
+
 module _ {T : Type 0} (stands : T → LayerState) (o : Opening) where
   abbrev Locking : ℕ → ℕ → ℕ → Me (Option T) View → List Entry → State (Option T) View → ℕ → Type 0
   Locking slots id n me es st y =
@@ -86,7 +91,7 @@ module _ {T : Type 0} (stands : T → LayerState) (o : Opening) where
         one_follows s m n acts.Lock b.whole (for_some_is (m.now.calls n).call is_lock_or_compact p.call) (eq-eqb (gate_word m.state.gate) 0 zero),
         refl,
         all_gate o.limits r.lead.counted (after s m (entry n acts.Lock)) m _ st.words (65536 * (n + 1))
-            (record { lfh = refl; words = refl; active = refl; spans = refl; hints = λ k b t. refl; makers = λ f k. refl }) refl y b.words,
+            (record { lfh = refl; words = refl; active = refl; spans = refl; hints = λ k b t. refl; makers = λ f k. refl }) refl (inl (λ own. refl)) y b.words,
         homes_kept stands o (after s m (entry n acts.Lock)).state m.state st.homes (homes_still _ _ refl refl) b.home,
       )) in
       let W : View = a.0 in
@@ -143,12 +148,13 @@ module _ {T : Type 0} (stands : T → LayerState) (o : Opening) where
       let owns = (and_parts (caller_view m n).owns (not (caller_view m n).entered) parts.0).0 in
       let mine : m.state.gate.owner ≡ Some n = owner_is n m.state.gate.owner owns in
       let word : caller_word m.state.gate.owner ≡ n + 1 = ap caller_word mine in
+      let free = free_beside m n b.gate owns (no_back (caller_view m n) parts.1) in
       let y : (x + (18446744073709551616 - 65536 * (n + 1))) % 18446744073709551616 ≡ gate_word (after s m (entry n acts.Unlock)).state.gate = omega arith in (
         one_follows s m n acts.Unlock b.whole p.begun p.may,
         refl,
         all_gate o.limits r.lead.counted (after s m (entry n acts.Unlock)) m _ st.words ((x + (18446744073709551616 - 65536 * (n + 1))) % 18446744073709551616)
             (record { lfh = refl; words = refl; active = refl; spans = refl; hints = λ k b t. refl; makers = λ f k. refl }) refl
-            y b.words,
+            (inr free) y b.words,
         homes_kept stands o (after s m (entry n acts.Unlock)).state m.state st.homes (homes_still _ _ refl refl) b.home,
       )) in
       (a.0, keeps, tt, a.1, (adds_of me (a.0, me.1) n es acts.Unlock h.role a.2, refl, a.3))

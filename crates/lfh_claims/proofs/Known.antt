@@ -1,11 +1,12 @@
 -- What a caller may do by what earlier calls told it.
-use Rattle.std.proofs.Common.{◌≡◌, ℕ, ◌*◌, ◌==◌, ◌≤◌, Bool, true, not, ◌&&◌, ◌||◌, Option, Some, None, refl, sym, ap, ◌∙◌, subst, inl, inr}
+use Rattle.std.proofs.Common.{◌≡◌, ℕ, ◌*◌, ◌==◌, ◌≤◌, Bool, true, false, not, ◌&&◌, ◌||◌, Option, Some, None, refl, sym, ap, ◌∙◌, subst, inl, inr}
 use Rattle.std.specs.Prelude.{is_some, unwrap_or, nat_le}
-use Rattle.std.proofs.lemmas.Bool.{cases_Bool, and_from, le-leb}
+use Rattle.std.proofs.lemmas.Bool.{cases_Bool, and_from, le-leb, eqb-true, false≢true}
 use Rattle.heap_model.specs.declared.Layer.{Layer}
 use Rattle.heap_model.specs.declared.Layer.TheVariants as layers
 use Rattle.heap_model.specs.Buckets.{block_address}
-use Rattle.heap_model.specs.State.{Place, is_entered, room}
+use Rattle.heap_model.specs.declared.What.TheVariants as whats
+use Rattle.heap_model.specs.State.{Place, is_entered, holds, room}
 use Rattle.heap_model.specs.Stay.{for_some}
 use Rattle.heap_model.specs.CallState.{Configuration, caller_view}
 use Rattle.heap_model.specs.Legal.{may_touch, suits, suits_in}
@@ -18,7 +19,7 @@ use Rattle.block_steps.proofs.BlockLaws.{ask_by_tag}
 use Rattle.heap_gate.specs.Token.{now}
 use Rattle.lfh_claims.specs.declared.tag.Tag.{Tag}
 use Rattle.lfh_claims.specs.Blocks.{tag_told}
-use Rattle.lfh_claims.specs.Laws.{ReadByTag, AsksByTag, PublishesInHand, ClearsInHand, SoughtIs}
+use Rattle.lfh_claims.specs.Laws.{ReadByTag, AsksByTag, ReadsGivenTag, PublishesInHand, ClearsInHand, SoughtIs}
 
 -- a tag that was told is that of a word that is not 0
 told_parts : (tag : Tag) (word : ℕ) → Some tag ≡ tag_told word → (word ≡ 0 → ⊥) × (first_of_tag word ≡ tag.head) × (bucket_of_tag word ≡ tag.bucket) × (slot_of_tag word ≡ tag.slot)
@@ -43,6 +44,19 @@ asks_by_tag old new addr tag h stands inside aligned s q =
     let begun : is_some ((now s new).now.calls new.number).call ≡ true = ap is_some a.call ∙ a.begun (ap (λ (b : Bool). b || not (new.depth == 0)) inside) in
     let k = ask_by_tag (now s new) new.number addr h.word begun (a.entered ∙ inside) ((h.tells s q).tagged p.0) aligned in
     record { begun = k.begun; inside = k.inside; seen = record { span = k.seen.span; there = k.seen.there; begins = k.seen.begins ∙ p.1; bucket = k.seen.bucket ∙ p.2; slot = k.seen.slot ∙ p.3 }; has_page = k.has_page; aligned = k.aligned }
+
+-- the tag of a subsegment whose maker has given Back
+pub reads_given_tag : ReadsGivenTag
+reads_given_tag old new page told x s h stands inside free q f none = elim (cases_Bool (h.word == 0)) [
+  | inl e ↦
+      let a = stands s q in
+      let n : new.number ≡ old.number = h.runs.does.number in
+      let entered : is_entered (now s new).state.gate old.number ≡ true = ap (is_entered (now s new).state.gate) (sym n) ∙ (a.entered ∙ inside) in
+      let held : holds (now s new).state.gate old.number whats.Back ≡ false = ap (λ (k : ℕ). holds (now s new).state.gate k whats.Back) (sym n) ∙ (a.locks whats.Back ∙ free) in
+      let w = (h.tells s q).wanting (eqb-true h.word 0 e) entered held x f in
+      absurd (false≢true (sym (ap is_some none) ∙ w))
+  | inr e ↦ ap is_some h.told_is ∙ rw e refl
+]
 
 -- the room of a place of the front end
 room_of : (p : Place) → p.layer ≡ layers.Lfh → room p ≡ 16 * p.granules

@@ -1,11 +1,17 @@
 -- What a caller may do by what earlier calls told it, in words of the token.
-use Rattle.std.specs.Prelude.{◌≡◌, ℕ, ◌/◌, ◌%◌, ◌≤◌, true, List, ◌++◌, Some}
+use Rattle.std.specs.Prelude.{◌≡◌, ℕ, ◌/◌, ◌%◌, ◌≤◌, true, false, is_some, List, ◌++◌, Option, Some, None}
+use Rattle.std.specs.List.{find}
 use Rattle.heap_model.specs.declared.Entry.{Entry}
+use Rattle.heap_model.specs.declared.What.TheVariants as whats
+use Rattle.heap_model.specs.Backend.{in_span}
 use Rattle.heap_model.specs.Buckets.{block_size}
 use Rattle.heap_model.specs.Search.{request_of}
+use Rattle.heap_model.specs.State.{Setting, Span}
+use Rattle.claim_rule.specs.Entries.{IsSettingOf}
+use Rattle.claim_rule.specs.Shown.{lfh_spans}
 use Rattle.step_parts.specs.InHand.{HasBlock, IsBlockNumber}
 use Rattle.block_steps.specs.Blocks.{MayAsk, MayPublish}
-use Rattle.heap_gate.specs.Token.{Token, now, Always, IsStanding}
+use Rattle.heap_gate.specs.Token.{Token, now, Always, IsStanding, is_out}
 use Rattle.heap_gate.specs.Calls.{Does}
 use Rattle.lfh_claims.specs.declared.tag.Tag.{Tag}
 use Rattle.lfh_claims.specs.Blocks.{HasTag, MayGiveUp}
@@ -32,6 +38,12 @@ abbrev pub AsksByTag : Type 0
 AsksByTag =
     (old new : Token) (addr : ℕ) (tag : Tag) → HasTag old new (addr / 4096) (Some tag) → IsStanding new → new.inside ≡ true → addr % 16 ≡ 0
     → Always new (λ s. MayAsk (now s new) new.number tag.head tag.bucket tag.slot addr)
+
+-- A caller inside that does not hold the back end's lock reads the tag of a subsegment that it knows of, where the one that made it has given that lock back.
+abbrev pub ReadsGivenTag : Type 0
+ReadsGivenTag =
+    (old new : Token) (page : ℕ) (told : Option Tag) (x : Span) (s : Setting) → HasTag old new page told → IsStanding new → new.inside ≡ true → is_out whats.Back new.out ≡ false → IsSettingOf new.opening new.roll s
+    → find (in_span page) (lfh_spans (now s new).state.back.area) ≡ Some x → (now s new).now.span_history.makers x.first ≡ None → is_some told ≡ true
 
 -- a block in hand may become live
 abbrev pub PublishesInHand : Type 0

@@ -1,11 +1,11 @@
 -- A caller behind a step without an entry of its own, which changes no more than what it owes.
-use Rattle.std.proofs.Common.{◌≡◌, ℕ, Bool, true, List, [], Option, refl, sym, ap, ◌∙◌, subst}
+use Rattle.std.proofs.Common.{◌≡◌, ◌==◌, ℕ, Bool, true, false, not, List, [], Option, refl, sym, ap, ◌∙◌, subst}
 use Rattle.atomic_table.specs.Table.{Me}
 use Rattle.atomic_table.specs.Seated.{TableId}
 use Rattle.rand_core.specs.Stream.{Stream}
 use Rattle.heap_model.specs.declared.Entry.{Entry}
 use Rattle.heap_model.specs.declared.What.TheVariants as whats
-use Rattle.heap_model.specs.State.{Setting, hands, holds}
+use Rattle.heap_model.specs.State.{Setting, hands, holds, is_caller}
 use Rattle.heap_model.specs.Agreement.{AgreesFor}
 use Rattle.claim_rule.specs.declared.views.Owed.{Owed}
 use Rattle.claim_rule.specs.declared.views.View.{View}
@@ -21,6 +21,10 @@ module _ {T : Type 0} (z : TableId) (me : Me (Option T) View) (f : Face) (slot :
   -- it holds Back
   pub has_back : is_out whats.Back (outs me.1) ≡ true → (s : Setting) → IsSettingOf me.0.opening me.0.roll s → holds (ready_after s me.0 f.prepared).state.gate f.number whats.Back ≡ true
   has_back o s q = let a = h.at s q in a.locks whats.Back ∙ o
+
+  -- it owns the heap lock
+  pub has_lock : (f.depth == 0) ≡ false → (s : Setting) → IsSettingOf me.0.opening me.0.roll s → is_caller f.number (ready_after s me.0 f.prepared).state.gate.owner ≡ true
+  has_lock d s q = let a = h.at s q in a.owns ∙ ap not d
 
   module _ (w : f.whole ≡ true) (me' : Me (Option T) View) (slots : me'.1 ≡ me.1) (owed : List Owed) (owes : me'.0.owes ≡ owed) (z' : TableId) (ez : z' ≡ z) (left : List Entry) (le : left ≡ [])
       (go : Goes f.number me.0 me'.0 f.prepared []) where

@@ -1,8 +1,8 @@
 -- A subsegment that goes back, step by step: its tag tells the bucket and the slot, its tags are cleared, and its Unspan comes with the store of the hint.
-use Rattle.std.proofs.Common.{◌≡◌, ℕ, ◌+◌, ◌*◌, ◌/◌, ◌%◌, ◌<◌, ◌≤◌, ◌==◌, Bool, true, not, ◌&&◌, List, [], ◌∷◌, Option, Some, None, refl, sym, ap, ◌∙◌, subst, arith, inl, inr}
+use Rattle.std.proofs.Common.{◌≡◌, ℕ, ◌+◌, ◌*◌, ◌/◌, ◌%◌, ◌<◌, ◌≤◌, ◌==◌, Bool, true, false, not, ◌&&◌, List, [], ◌∷◌, Option, Some, None, refl, sym, ap, ◌∙◌, subst, arith, inl, inr}
 use Rattle.std.specs.Prelude.{is_some, unwrap_or, option_map, if◌then◌else◌, nat_le, nat_lt, IfSome, IsSome}
 use Rattle.std.specs.List.{find}
-use Rattle.std.proofs.lemmas.Bool.{cases_Bool, and_parts, and_from, eqb-true, le-leb, lt-ltb, ltb-true, leb-true, false≢true}
+use Rattle.std.proofs.lemmas.Bool.{cases_Bool, and_parts, and_from, eqb-true, le-leb, lt-ltb, ltb-true, leb-true, false≢true, not-true}
 use Rattle.heap_model.specs.declared.Act.TheVariants as acts
 use Rattle.heap_model.specs.declared.Call.{Call}
 use Rattle.heap_model.specs.declared.Kind.{Kind}
@@ -136,6 +136,15 @@ module _ (c0 : Token) (k0 : Kept) (head : ℕ) (at0 : IsStanding c0) (out : is_o
       let q = some_setting c0.opening c0.roll in
       let r = span_there s (now s c0) c0.number head (may0 s q) in
       (r.0, ap (λ (a : Area). span_at a head) (sym (area0 s q)) ∙ r.1)
+
+  -- the caller has the heap lock
+  pub deep : (c0.depth == 0) ≡ false
+  deep =
+      let s = setting_of c0.opening c0.roll in
+      let q = some_setting c0.opening c0.roll in
+      let r = span_there s (now s c0) c0.number head (may0 s q) in
+      let w = owner_by s (now s c0) c0.number head (may0 s q) (kind_by r.0 (ap (λ (a : Area). span_at a head) (sym (area0 s q)) ∙ r.1)) in
+      not-true (c0.depth == 0) (sym (at0 s q).owns ∙ w.owns)
 
   pub gives_some : IsSome (span_at (area_of k0) head)
   gives_some = ap is_some here.1

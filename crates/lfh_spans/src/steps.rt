@@ -2,7 +2,7 @@
 ghost use Rattle.std.specs.Prelude.{◌≡◌, ◌*◌, ◌<◌, ◌≤◌, true};
 ghost use mathlib.Core.Option.{none};
 ghost use Rattle.atomic_table.specs.Table.{step};
-ghost use Rattle.heap_model.specs.State.{holds, Setting};
+ghost use Rattle.heap_model.specs.State.{holds, is_caller, Setting};
 ghost use Rattle.heap_model.specs.declared.What.TheVariants as whats;
 ghost use Rattle.claim_rule.specs.Entries.{IsSettingOf};
 ghost use Rattle.claim_rule.specs.Places.{bitmap_at, bit_of_block, hint_at, tag_at};
@@ -136,7 +136,7 @@ pub(crate) fn clear_tag_by<T: Stands, B: Target, E: Carried>(
     requires word { word ≡ tag_at B.number }
     requires page { B.number < 256 * top.now.key.limits.segments }
     requires ready { IsReady (number_of place.old.me.0.role) place.old.me.0 E.entries }
-    requires may { (s : Setting) → IsSettingOf place.old.me.0.opening place.old.me.0.roll s → holds (ready_after s place.old.me.0 E.entries).state.gate (number_of place.old.me.0.role) whats.Back ≡ true }
+    requires may { (s : Setting) → IsSettingOf place.old.me.0.opening place.old.me.0.roll s → (holds (ready_after s place.old.me.0 E.entries).state.gate (number_of place.old.me.0.role) whats.Back ≡ true) × (is_caller (number_of place.old.me.0.role) (ready_after s place.old.me.0 E.entries).state.gate.owner ≡ true) }
     ensures table { place.new.table_id ≡ place.old.table_id }
     ensures told { put_word E.entries (owed_zero (tag_at B.number)) (step top.now.table_id.slots word 0 0 none) place.old.me 0 place.new.me }
 {

@@ -188,11 +188,12 @@ pub fn tag_pages<T: Stands>(heap: &Heap<T>, c: &mut Caller<T>, at: Subsegment)
     }
 }
 
-/// Clears the tag of a page.
+/// Clears the tag of a page, for the owner of the heap lock.
 fn clear_tag<T: Stands>(heap: &Heap<T>, c: &mut Caller<T>, page: u32)
     requires table { (c.old.table ≡ heap.now.table) × (c.old.opening ≡ heap.now.opening) }
     requires whole { c.old.whole ≡ true }
     requires held { is_out whats.Back c.old.out ≡ true }
+    requires owner { (c.old.depth == 0) ≡ false }
     requires page { page < 256 * c.old.opening.limits.segments }
     ensures runs { Runs c.old c.new [] }
     ensures stands { Standing c.new (record (stance c.old) { owes = owed_zero (tag_at page) c.old.owes }) }
@@ -204,12 +205,13 @@ fn clear_tag<T: Stands>(heap: &Heap<T>, c: &mut Caller<T>, page: u32)
     c.pending = false;
 }
 
-/// Clears the tags of a subsegment's pages, from the first on.
+/// Clears the tags of a subsegment's pages, from the first on, for the owner of the heap lock.
 pub fn clear_tags<T: Stands>(heap: &Heap<T>, c: &mut Caller<T>, at: Subsegment)
     requires table { (c.old.table ≡ heap.now.table) × (c.old.opening ≡ heap.now.opening) }
     requires whole { c.old.whole ≡ true }
     requires ready { (c.old.pending ≡ false) × (c.old.prepared ≡ []) }
     requires held { is_out whats.Back c.old.out ≡ true }
+    requires owner { (c.old.depth == 0) ≡ false }
     requires few { at.head + at.pages ≤ 256 * c.old.opening.limits.segments }
     ensures runs { Runs c.old c.new [] }
     ensures stands { Standing c.new (record (stance c.old) { owes = owed_tags at.head at.pages c.old.owes }) }

@@ -96,7 +96,7 @@ module _ {T : Type 0} (stands : T â†’ LayerState) (o : Opening) (slots id n : â„
         refl,
         shown_behind o.limits r.lead.counted (after s (now_at s) (entry n deed)) (now_at s) r.owes r.owes st.words (data_at o.limits w) v (omega arith) (omega arith)
             (data_behind o.limits s (now_at s) r.owes w v lt)
-            (still_owed o.limits (after s (now_at s) (entry n deed)) (now_at s) r.owes refl refl refl (owed_soundly o.limits r.lead.counted (now_at s) r.owes st.words d.words)) d.words,
+            (still_owed o.limits (after s (now_at s) (entry n deed)) (now_at s) r.owes refl refl refl refl (owed_soundly o.limits r.lead.counted (now_at s) r.owes st.words d.words)) d.words,
         homes_kept stands o (after s (now_at s) (entry n deed)).state (now_at s).state st.homes (homes_still _ _ refl refl) d.home,
       )) in
       (a.0, keeps, tt, a.1, record { adds = adds_of me (a.0, me.1) n es deed h.role a.2; slot = refl; owes = a.3 })

@@ -215,8 +215,8 @@ module _ {T : Type 0} (stands : T → LayerState) (o : Opening) where
         owing whats.Lfh q free = absurd q
 
         owed_behind : (s : Setting) (w : What) → HasSlot w → holder_of (behind s).state.gate.locks w ≡ None → IsOwedSoundly o.limits (behind s) r.owes → IsOwedSoundly o.limits (after s (behind s) (entry n (acts.TakeLock w))) r.owes
-        owed_behind s whats.Vs q free f = still_owed o.limits (after s (behind s) (entry n (acts.TakeLock whats.Vs))) (behind s) r.owes refl refl refl f
-        owed_behind s whats.Large q free f = still_owed o.limits (after s (behind s) (entry n (acts.TakeLock whats.Large))) (behind s) r.owes refl refl refl f
+        owed_behind s whats.Vs q free f = still_owed o.limits (after s (behind s) (entry n (acts.TakeLock whats.Vs))) (behind s) r.owes refl refl refl refl f
+        owed_behind s whats.Large q free f = still_owed o.limits (after s (behind s) (entry n (acts.TakeLock whats.Large))) (behind s) r.owes refl refl refl refl f
         owed_behind s whats.Back q free f = none_owed o.limits (after s (behind s) (entry n (acts.TakeLock whats.Back))) (behind s) r.owes refl (λ b t. refl) (f.paid free) f.heads
         owed_behind s whats.Gate q free f = absurd q
         owed_behind s whats.Lfh q free f = absurd q
@@ -276,8 +276,8 @@ module _ {T : Type 0} (stands : T → LayerState) (o : Opening) where
     owing front same whats.Lfh q = absurd q
 
     owed_behind : (s : Setting) → IsSettingOf o r.lead.roll s → (w : What) → HasSlot w → holder_of (back_to s).state.gate.locks w ≡ Some n → IsPaid w me.0.owes → IsOwedSoundly o.limits (back_to s) r.owes → IsOwedSoundly o.limits (after s (back_to s) (entry n (acts.GiveLock w))) r.owes
-    owed_behind s q whats.Vs has e p f = still_owed o.limits (after s (back_to s) (entry n (acts.GiveLock whats.Vs))) (back_to s) r.owes refl refl refl f
-    owed_behind s q whats.Large has e p f = still_owed o.limits (after s (back_to s) (entry n (acts.GiveLock whats.Large))) (back_to s) r.owes refl refl refl f
+    owed_behind s q whats.Vs has e p f = still_owed o.limits (after s (back_to s) (entry n (acts.GiveLock whats.Vs))) (back_to s) r.owes refl refl refl refl f
+    owed_behind s q whats.Large has e p f = still_owed o.limits (after s (back_to s) (entry n (acts.GiveLock whats.Large))) (back_to s) r.owes refl refl refl refl f
     owed_behind s q whats.Back has e p f = none_owed o.limits (after s (back_to s) (entry n (acts.GiveLock whats.Back))) (back_to s) r.owes refl (λ b t. refl) (all_paid s q e p) f.heads
     owed_behind s q whats.Gate has e p f = absurd has
     owed_behind s q whats.Lfh has e p f = absurd has

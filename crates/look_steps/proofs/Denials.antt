@@ -1,5 +1,5 @@
 -- The laws of the steps with which a caller says that no live block has an address.
-use Rattle.std.proofs.Common.{◌≡◌, ℕ, ◌+◌, ◌%◌, ◌<◌, true, ◌==◌, List, [], ◌∷◌, get_or, Option, refl, sym, ap, ◌∙◌, subst, arith, eq-eqb}
+use Rattle.std.proofs.Common.{◌≡◌, ℕ, ◌+◌, ◌%◌, ◌<◌, true, ◌==◌, List, [], ◌∷◌, get_or, Option, refl, sym, ap, ◌∙◌, subst, arith, inl, eq-eqb}
 use Rattle.std.specs.Prelude.{is_some}
 use Rattle.std.proofs.lemmas.Bool.{and_from}
 use mathlib.Core.Option.{none, some}
@@ -87,7 +87,7 @@ module _ {T : Type 0} (stands : T → LayerState) (o : Opening) (slots id n a : 
             (one_follows s first n acts.Leave refl (ap (λ (v : CallerView). is_some v.call.call) view ∙ p.begun) (ap (λ (v : CallerView). may_leave v (hands m.state n)) view ∙ p.may)),
         refl,
         all_gate o.limits r.lead.counted (after s first (entry n acts.Leave)) m _ st.words ((x + 18446744073709551615) % 18446744073709551616)
-            (record { lfh = refl; words = refl; active = refl; spans = refl; hints = λ k b t. refl; makers = λ f k. refl }) refl y b.words,
+            (record { lfh = refl; words = refl; active = refl; spans = refl; hints = λ k b t. refl; makers = λ f k. refl }) refl (inl (λ own. own)) y b.words,
         homes_kept stands o (after s first (entry n acts.Leave)).state m.state st.homes (homes_still _ _ refl refl) b.home,
       )) in (
         c.0,

@@ -15,13 +15,12 @@ use Rattle.heap_model.specs.State.{Setting, Span, Place, BackPart, GateAndLocks,
 use Rattle.heap_model.specs.CallState.{Configuration}
 use Rattle.heap_model.specs.Search.{spans_of, is_span_of, begins_at, first_of, hint_or}
 use Rattle.heap_model.specs.History.{configuration_after, configuration_of}
-use Rattle.heap_model.specs.Agreement.{GateIsSound}
 use Rattle.heap_soundness.proofs.Lists.{any_found}
 use Rattle.heap_soundness.proofs.Enums.{kind_is}
 use Rattle.heap_model.specs.declared.Opening.{Opening}
 use Rattle.claim_rule.specs.declared.views.Owed.{Owed}
 use Rattle.claim_rule.specs.declared.views.View.{View}
-use Rattle.claim_rule.specs.Shown.{lfh_spans, bitmap_word, size_word, owed_or, tag_word, hint_word, is_head, are_made_by, HintsAreHeads, MayBeOld, flag}
+use Rattle.claim_rule.specs.Shown.{lfh_spans, bitmap_word, size_word, owed_or, tag_word, hint_word, is_head, are_made_by, MayWantTag, HintsAreHeads, MayBeOld, flag}
 use Rattle.heap_model.specs.Layers.{LayerState}
 use Rattle.claim_rule.specs.Entries.{IsSettingOf}
 use Rattle.claim_rule.specs.Rule.{IsRuled, IsReady, ready_after}
@@ -36,6 +35,7 @@ use Rattle.step_parts.proofs.FrontEnd.{IsFront, front_here}
 use Rattle.step_parts.proofs.BlockWords.{in_lfh, into_lfh, span_found}
 use Rattle.step_parts.proofs.Filters.{in_filter}
 use Rattle.claim_rule.proofs.Ready.{holder_is_it, reads}
+use Rattle.claim_rule.proofs.Wanting.{free_beside, maker_inside}
 use Rattle.step_parts.proofs.Tags.{tagged}
 
 ---- One configuration
@@ -71,23 +71,6 @@ module _ (l : Limits) (m : Configuration) (f : IsFront l m.state.back.area m.sta
       by : (w : Option ℕ) → m.now.span_history.hints b t ≡ w → word ≡ unwrap_or (hint_or w (first_of (spans_of m.state.back.area b t))) 0 → is_head m.state.back.area b t word ≡ true
       by (Some x) u v = heads b t word (u ∙ ap Some (sym v))
       by None u v = lowest (spans_of m.state.back.area b t) v
-
-  -- beside the owner of the heap lock nobody holds Back
-  free_of : (n : ℕ) → GateIsSound m.state.gate → is_caller n m.state.gate.owner ≡ true → holds m.state.gate n whats.Back ≡ false → m.state.gate.locks.back ≡ None
-  free_of n g own none_held = by m.state.gate.locks.back refl
-    where
-      one_owner : (w : Option ℕ) (d : ℕ) → is_caller n w ≡ true → is_caller d w ≡ true → d ≡ n
-      one_owner None d a b = absurd (false≢true a)
-      one_owner (Some c) d a b = sym (eqb-true c d b) ∙ eqb-true c n a
-
-      by : (w : Option ℕ) → m.state.gate.locks.back ≡ w → m.state.gate.locks.back ≡ None
-      by None e = e
-      by (Some d) e =
-          let same : d ≡ n = elim (cases_Bool (is_caller d m.state.gate.owner)) [
-            | inl u ↦ one_owner m.state.gate.owner d own u
-            | inr u ↦ g.alone n d own (g.inside d whats.Back (ap (is_caller d) e ∙ eq-eqb d d refl) u)
-          ] in
-          absurd (both_ways (holds m.state.gate n whats.Back) none_held (ap (is_caller n) e ∙ eq-eqb d n same))
 
 ---- The laws
 
@@ -206,7 +189,7 @@ module _ {T : Type 0} (stands : T → LayerState) (o : Opening) (slots id n : �
           record {
             shown = k.1;
             free = exact;
-            alone = λ own e. exact (free_of o.limits (now_at s) f n d.gate own e);
+            alone = λ own e. exact (free_beside (now_at s) n d.gate own e);
             mine = λ e. k.0 ∙ ap (λ (z : List Owed). owed_or z (118 + 16 * b + t) (hint_word (now_at s).state.back.area (now_at s).now.span_history b t)) (sym (owed_here s g e));
             seen = λ nz. head_seen o.limits (now_at s) f b t (get_or st.words (hint_at b t) 0) (⊎_elim
                 (λ (z : get_or st.words (hint_at b t) 0 ≡ hint_word (now_at s).state.back.area (now_at s).now.span_history b t). hint_is_head o.limits (now_at s) f b t (get_or st.words (hint_at b t) 0) d.words.lfh.heads z nz)
@@ -241,13 +224,14 @@ module _ {T : Type 0} (stands : T → LayerState) (o : Opening) (slots id n : �
           let exact : (now_at s).state.gate.locks.back ≡ None → get_or st.words (tag_at page) 0 ≡ tag_word (lfh_spans (now_at s).state.back.area) page =
           λ e. k.0 ∙ ap (λ (z : List Owed). owed_or z (2182 + page) (tag_word (lfh_spans (now_at s).state.back.area) page)) (d.words.lfh.paid e) in
           record {
-            shown = k.1;
+            shown = ⊎_elim (λ (z : get_or st.words (tag_at page) 0 ≡ tag_word (lfh_spans (now_at s).state.back.area) page). inl z) (λ (z : (get_or st.words (tag_at page) 0 ≡ 0) × MayWantTag (now_at s) page). inr z.0) k.1;
             free = exact;
-            alone = λ own e. exact (free_of o.limits (now_at s) f n d.gate own e);
+            alone = λ own e. exact (free_beside (now_at s) n d.gate own e);
+            wanting = λ e inside none_held. maker_inside (now_at s) n r.owes page (get_or st.words (tag_at page) 0) d.gate exact k e inside none_held;
             mine = λ e. k.0 ∙ ap (λ (z : List Owed). owed_or z (2182 + page) (tag_word (lfh_spans (now_at s).state.back.area) page)) (sym (owed_here s g e));
             tagged = λ nz. ⊎_elim
                 (λ (z : get_or st.words (tag_at page) 0 ≡ tag_word (lfh_spans (now_at s).state.back.area) page). tagged o.limits (now_at s) f r.numbers.limits.slots page (get_or st.words (tag_at page) 0) z nz)
-                (λ (z : get_or st.words (tag_at page) 0 ≡ 0). absurd (nz z)) k.1;
+                (λ (z : (get_or st.words (tag_at page) 0 ≡ 0) × MayWantTag (now_at s) page). absurd (nz z.0)) k.1;
           }
 
 pub look_bits_law : {T : Type 0} (stands : T → LayerState) → LookBitsLaw stands

@@ -5,13 +5,13 @@ use Rattle.atomic_table.specs.Table.{Step, Me}
 use Rattle.heap_model.specs.declared.Entry.{Entry}
 use Rattle.heap_model.specs.declared.What.TheVariants as whats
 use Rattle.heap_model.specs.Bits.{bits_of}
-use Rattle.heap_model.specs.State.{Area, Setting, Span, Place, is_caller, holds}
+use Rattle.heap_model.specs.State.{Area, Setting, Span, Place, is_caller, is_entered, holds}
 use Rattle.heap_model.specs.CallState.{Configuration}
 use Rattle.heap_model.specs.History.{configuration_of}
 use Rattle.heap_soundness.specs.Sound.{IsOneOf}
 use Rattle.claim_rule.specs.declared.views.Owed.{Owed}
 use Rattle.claim_rule.specs.declared.views.View.{View}
-use Rattle.claim_rule.specs.Shown.{lfh_spans, bitmap_word, size_word, owed_or, tag_word, hint_word, MayBeOld, flag}
+use Rattle.claim_rule.specs.Shown.{lfh_spans, bitmap_word, size_word, owed_or, tag_word, hint_word, HasMaker, MayBeOld, flag}
 use Rattle.claim_rule.specs.Entries.{IsSettingOf}
 use Rattle.claim_rule.specs.Rule.{ready_after}
 use Rattle.claim_rule.specs.Plays.{Goes, number_of}
@@ -66,11 +66,12 @@ module _ {T : Type 0} (es : List Entry) (b t : ℕ) (st : Step (Option T)) (m : 
     pub owes : m'.0.owes ≡ m.0.owes
     pub tells : (s : Setting) → IsSettingOf m'.0.opening m'.0.roll s → IsHintWord (configuration_of s m'.0.seen) (number_of m.0.role) b t m.0.owes r
 
--- .. or a tag
+-- .. or a tag. It is 0 over a subsegment, for a caller inside that does not hold Back, only where the one that made the subsegment has held Back since before.
 pub record IsTagWord (m : Configuration) (n page : ℕ) (owes : List Owed) (r : ℕ) : Type 0 where
   pub shown : (r ≡ tag_word (lfh_spans m.state.back.area) page) ⊎ (r ≡ 0)
   pub free : m.state.gate.locks.back ≡ None → r ≡ tag_word (lfh_spans m.state.back.area) page
   pub alone : is_caller n m.state.gate.owner ≡ true → holds m.state.gate n whats.Back ≡ false → r ≡ tag_word (lfh_spans m.state.back.area) page
+  pub wanting : r ≡ 0 → is_entered m.state.gate n ≡ true → holds m.state.gate n whats.Back ≡ false → HasMaker m.state.back.area m.now.span_history page
   pub mine : holds m.state.gate n whats.Back ≡ true → r ≡ owed_or owes (2182 + page) (tag_word (lfh_spans m.state.back.area) page)
   pub tagged : (r ≡ 0 → ⊥) → IsTagged m page r
 

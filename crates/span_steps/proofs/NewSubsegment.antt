@@ -1,6 +1,6 @@
 -- A subsegment is made under Back: the words show it where its tags and its hint are owed.
 use Rattle.std.proofs.Common.{◌≡◌, ◌⊎◌, ℕ, zero, suc, ◌+◌, ◌*◌, ◌/◌, ◌%◌, ◌<◌, ◌≤◌, Bool, true, false, ◌&&◌, ◌==◌, List, [], ◌∷◌, set, Option, Some, None, refl, sym, ap, ◌∙◌, subst, arith, inl, inr, ⊎_elim, eqb, eq-eqb, ne_eqb}
-use Rattle.std.specs.Prelude.{filter, nat_lt, unwrap_or, option_map}
+use Rattle.std.specs.Prelude.{filter, nat_lt, unwrap_or, option_map, is_some}
 use Rattle.std.specs.List.{find, list_any, list_all}
 use Rattle.std.proofs.lemmas.Bool.{cases_Bool, cases_eq, cases_lt, le-ltb, and_parts, and_from, both_ways, eqb-true, eqb-false, ltb-true, leb-true, false≢true}
 use Rattle.std.proofs.lemmas.List.{set-get_or}
@@ -19,7 +19,7 @@ use Rattle.heap_model.proofs.ListLemmas.{filter-insert_span}
 use Rattle.heap_soundness.specs.Sound.{IsOneOf, AreInOrder, IsInLfh}
 use Rattle.heap_soundness.proofs.Lists.{all_at, any_in, any_found, found_in, found_passes, find_some}
 use Rattle.claim_rule.specs.declared.views.Owed.{Owed}
-use Rattle.claim_rule.specs.Shown.{AreAllShown, lfh_spans, tag_of, bitmap_word, owed_or, tag_word, hint_word, is_head, are_made_by, MayBeOld}
+use Rattle.claim_rule.specs.Shown.{AreAllShown, lfh_spans, tag_of, bitmap_word, owed_or, tag_word, hint_word, is_head, are_made_by, HasMaker, MayWantTag, MayBeOld}
 use Rattle.claim_rule.specs.Entries.{entry}
 use Rattle.lfh_buckets.proofs.Seats.{block_seat}
 use Rattle.span_steps.specs.Installs.{owed_tags, owed_by_span}
@@ -147,7 +147,7 @@ module _ (l : Limits) (s : Setting) (m : Configuration) (n first pages b t : ℕ
         | inr ge ↦ elim (cases_lt page (first + pages)) [
           | inl lt ↦
               tags_here first pages page (tag_word (lfh_spans made.state.back.area) page) owes ge lt
-              ∙ sym (⊎_elim (λ (z : owed_or owes (2182 + page) (tag_word (lfh_spans m.state.back.area) page) ≡ tag_word (lfh_spans m.state.back.area) page). z ∙ no_tag page ge lt) (λ (z : owed_or owes (2182 + page) (tag_word (lfh_spans m.state.back.area) page) ≡ 0). z) (f.tags page lp))
+              ∙ sym (⊎_elim (λ (z : owed_or owes (2182 + page) (tag_word (lfh_spans m.state.back.area) page) ≡ tag_word (lfh_spans m.state.back.area) page). z ∙ no_tag page ge lt) (λ (z : (owed_or owes (2182 + page) (tag_word (lfh_spans m.state.back.area) page) ≡ 0) × MayWantTag m page). z.0) (f.tags page lp))
           | inr le ↦ tags_else first pages (2182 + page) (tag_word (lfh_spans made.state.back.area) page) owes (λ p lo hi e. omega arith) ∙ ap (owed_or owes (2182 + page)) (tag_kept page (λ lo hi. omega arith))
         ]
       ])
@@ -289,13 +289,30 @@ module _ (l : Limits) (s : Setting) (m : Configuration) (n first pages b t : ℕ
           zero_hint None g = ap (λ (z : Option ℕ × List Span). unwrap_or (hint_or z.0 (first_of z.1)) 0) (λ j. (g j, e j))
           zero_hint (Some h) g = absurd (false≢true (sym (ap (list_any (begins_at h)) e) ∙ f.heads b t h g))
 
+  -- the new subsegment's maker is there
+  new_maker : (page : ℕ) → first ≤ page → page < first + pages → HasMaker made.state.back.area made.now.span_history page
+  new_maker page lo hi y e =
+      let i = in_lfh made.state.back.area.spans y (found_in (in_span page) (lfh_spans made.state.back.area) y e) in
+      let p = and_parts _ _ (found_passes (in_span page) (lfh_spans made.state.back.area) y e) in
+      ⊎_elim (λ (z : x ≡ y). let same : eqb y.first first ≡ true = eq-eqb y.first first (ap (λ (w : Span). w.first) (sym z)) in rw same refl)
+      (λ (z : IsOneOf y m.state.back.area.spans). absurd (clear y z page lo hi (leb-true y.first page p.0) (ltb-true page (y.first + y.pages) p.1))) (out_of x m.state.back.area.spans y i.0)
+
+  -- .. and those of the others
+  wanting_kept : (page : ℕ) → (first ≤ page → page < first + pages → ⊥) → MayWantTag m page → MayWantTag made page
+  wanting_kept page away w = ⊎_elim (λ (own : is_some m.state.gate.owner ≡ true). inl own) (λ (k : HasMaker m.state.back.area m.now.span_history page). inr (others k)) w
+    where
+      others : HasMaker m.state.back.area m.now.span_history page → HasMaker made.state.back.area made.now.span_history page
+      others k y e =
+          let was = k y (sym (skip (in_span page) (is_of_kind kinds.Lfh) x m.state.back.area.spans (out_page page away)) ∙ e) in
+          elim (cases_Bool (eqb y.first first)) [ inl g ↦ rw g refl | inr g ↦ rw g was ]
+
   -- readers may go by what is owed
   pub made_soundly : IsOwedSoundly l made owes_made
   made_soundly = record {
     tags = λ page lp. elim (cases_lt page first) [
       | inl lt ↦ out page lp (λ lo hi. omega arith)
       | inr ge ↦ elim (cases_lt page (first + pages)) [
-        | inl lt ↦ inr (tag_owed page lp ∙ ⊎_elim (λ (z : owed_or owes (2182 + page) (tag_word (lfh_spans m.state.back.area) page) ≡ tag_word (lfh_spans m.state.back.area) page). z ∙ no_tag page ge lt) (λ (z : owed_or owes (2182 + page) (tag_word (lfh_spans m.state.back.area) page) ≡ 0). z) (f.tags page lp))
+        | inl lt ↦ inr (tag_owed page lp ∙ ⊎_elim (λ (z : owed_or owes (2182 + page) (tag_word (lfh_spans m.state.back.area) page) ≡ tag_word (lfh_spans m.state.back.area) page). z ∙ no_tag page ge lt) (λ (z : (owed_or owes (2182 + page) (tag_word (lfh_spans m.state.back.area) page) ≡ 0) × MayWantTag m page). z.0) (f.tags page lp), inr (new_maker page ge lt))
         | inr le ↦ out page lp (λ lo hi. omega arith)
       ]
     ];
@@ -319,10 +336,10 @@ module _ (l : Limits) (s : Setting) (m : Configuration) (n first pages b t : ℕ
     paid = λ e. absurd (let z : None ≡ Some n = sym e ∙ held in let w : ⊥ = cc (z) in w);
   }
     where
-      out : (page : ℕ) → page < 256 * l.segments → (first ≤ page → page < first + pages → ⊥) → (owed_or owes_made (2182 + page) (tag_word (lfh_spans made.state.back.area) page) ≡ tag_word (lfh_spans made.state.back.area) page) ⊎ (owed_or owes_made (2182 + page) (tag_word (lfh_spans made.state.back.area) page) ≡ 0)
+      out : (page : ℕ) → page < 256 * l.segments → (first ≤ page → page < first + pages → ⊥) → (owed_or owes_made (2182 + page) (tag_word (lfh_spans made.state.back.area) page) ≡ tag_word (lfh_spans made.state.back.area) page) ⊎ ((owed_or owes_made (2182 + page) (tag_word (lfh_spans made.state.back.area) page) ≡ 0) × MayWantTag made page)
       out page lp away = ⊎_elim
           (λ (z : owed_or owes (2182 + page) (tag_word (lfh_spans m.state.back.area) page) ≡ tag_word (lfh_spans m.state.back.area) page). inl (tag_owed page lp ∙ (z ∙ sym (tag_kept page away))))
-          (λ (z : owed_or owes (2182 + page) (tag_word (lfh_spans m.state.back.area) page) ≡ 0). inr (tag_owed page lp ∙ z))
+          (λ (z : (owed_or owes (2182 + page) (tag_word (lfh_spans m.state.back.area) page) ≡ 0) × MayWantTag m page). inr (tag_owed page lp ∙ z.0, wanting_kept page away z.1))
           (f.tags page lp)
 
   -- the words as they are show the subsegment

@@ -1,6 +1,6 @@
 -- A subsegment without places goes back under Back: the words show the rest where its tags are 0 and its hint is stored.
 use Rattle.std.proofs.Common.{◌≡◌, ◌⊎◌, ℕ, ◌+◌, ◌*◌, ◌/◌, ◌%◌, ◌<◌, ◌≤◌, Bool, true, false, not, ◌&&◌, ◌==◌, List, [], ◌∷◌, set, Option, Some, None, refl, sym, ap, ◌∙◌, subst, arith, inl, inr, ⊎_elim, eqb, eq-eqb, ne_eqb}
-use Rattle.std.specs.Prelude.{filter, nat_lt, nat_le, unwrap_or, option_map}
+use Rattle.std.specs.Prelude.{filter, nat_lt, nat_le, unwrap_or, option_map, is_some}
 use Rattle.std.specs.List.{find, list_any, list_all}
 use Rattle.std.proofs.lemmas.Bool.{cases_Bool, cases_eq, cases_lt, le-ltb, le-leb, lt-ltb, and_parts, and_from, both_ways, eqb-true, eqb-false, ltb-true, leb-true, or_cases, or_left, or_right}
 use Rattle.heap_model.specs.declared.Act.TheVariants as acts
@@ -21,7 +21,7 @@ use Rattle.heap_soundness.proofs.Lists.{all_at, any_in, any_found, found_in, fou
 use Rattle.heap_soundness.proofs.Spans.{same_span, same_first, in_removed, removed_from}
 use Rattle.lfh_buckets.proofs.Seats.{block_end}
 use Rattle.claim_rule.specs.declared.views.Owed.{Owed}
-use Rattle.claim_rule.specs.Shown.{AreAllShown, lfh_spans, tag_of, bitmap_word, owed_or, tag_word, hint_word, is_head, are_made_by, MayBeOld}
+use Rattle.claim_rule.specs.Shown.{AreAllShown, lfh_spans, tag_of, bitmap_word, owed_or, tag_word, hint_word, is_head, are_made_by, HasMaker, MayWantTag, MayBeOld}
 use Rattle.claim_rule.specs.Entries.{entry}
 use Rattle.span_steps.specs.Retires.{is_of_span, owed_by_retire}
 use Rattle.claim_rule.proofs.Behind.{stays, IsBehind, IsOwedSoundly, shown_behind, locks_stay}
@@ -330,13 +330,24 @@ module _ (l : Limits) (s : Setting) (m : Configuration) (n first pages b t : ℕ
         (λ (z : is_head m.state.back.area c u word ≡ true). inr (ap (list_any (begins_at word)) (spans_kept c u ne) ∙ z)) w.2,
   )
 
+  -- the makers of the others are those that they were
+  wanting_left : (page : ℕ) → (first ≤ page → page < first + pages → ⊥) → MayWantTag m page → MayWantTag freed page
+  wanting_left page away w = ⊎_elim (λ (own : is_some m.state.gate.owner ≡ true). inl own) (λ (k : HasMaker m.state.back.area m.now.span_history page). inr (others k)) w
+    where
+      others : HasMaker m.state.back.area m.now.span_history page → HasMaker freed.state.back.area freed.now.span_history page
+      others k y e =
+          let i = in_lfh freed.state.back.area.spans y (found_in (in_span page) (lfh_spans freed.state.back.area) y e) in
+          let other : eqb y.first first ≡ false = ne_eqb y.first first (left y i.0).1 in
+          let kept = find_kept (in_span page) (is_of_kind kinds.Lfh) (begins_at first) m.state.back.area.spans (λ z e. ap (in_span page) (found z e) ∙ out_page page away) in
+          rw other (k y (sym kept ∙ e))
+
   freed_soundly : IsOwedSoundly l freed owes_freed
   freed_soundly = record {
-    tags = λ page lp. by_page (λ page. (owed_or owes_freed (2182 + page) (tag_word (lfh_spans freed.state.back.area) page) ≡ tag_word (lfh_spans freed.state.back.area) page) ⊎ (owed_or owes_freed (2182 + page) (tag_word (lfh_spans freed.state.back.area) page) ≡ 0)) page
+    tags = λ page lp. by_page (λ page. (owed_or owes_freed (2182 + page) (tag_word (lfh_spans freed.state.back.area) page) ≡ tag_word (lfh_spans freed.state.back.area) page) ⊎ ((owed_or owes_freed (2182 + page) (tag_word (lfh_spans freed.state.back.area) page) ≡ 0) × MayWantTag freed page)) page
         (λ lo hi. inl (tag_here page (tag_word (lfh_spans freed.state.back.area) page) lo hi))
         (λ away. ⊎_elim
         (λ (z : owed_or owes (2182 + page) (tag_word (lfh_spans m.state.back.area) page) ≡ tag_word (lfh_spans m.state.back.area) page). inl (tag_out page away ∙ (z ∙ sym (tag_kept page away))))
-        (λ (z : owed_or owes (2182 + page) (tag_word (lfh_spans m.state.back.area) page) ≡ 0). inr (tag_out page away ∙ z))
+        (λ (z : (owed_or owes (2182 + page) (tag_word (lfh_spans m.state.back.area) page) ≡ 0) × MayWantTag m page). inr (tag_out page away ∙ z.0, wanting_left page away z.1))
         (f.tags page lp));
     heads = heads_left;
     hints = λ c u lc hc fu. elim (cases_eq (118 + 16 * b + t) (118 + 16 * c + u)) [

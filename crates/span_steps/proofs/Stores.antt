@@ -10,14 +10,14 @@ use Rattle.heap_model.specs.declared.Act.TheVariants as acts
 use Rattle.heap_model.specs.declared.Entry.{Entry}
 use Rattle.heap_model.specs.declared.Limits.{Limits}
 use Rattle.heap_model.specs.declared.What.TheVariants as whats
-use Rattle.heap_model.specs.State.{Setting, BackPart, GateAndLocks, holds}
+use Rattle.heap_model.specs.State.{Setting, BackPart, GateAndLocks, holds, is_caller}
 use Rattle.heap_model.specs.CallState.{Configuration, CallState, SpanHistory}
 use Rattle.heap_model.specs.Legal.{after}
 use Rattle.heap_model.specs.History.{configuration_after, configuration_of}
 use Rattle.heap_model.specs.declared.Opening.{Opening}
 use Rattle.claim_rule.specs.declared.views.Owed.{Owed}
 use Rattle.claim_rule.specs.declared.views.View.{View}
-use Rattle.claim_rule.specs.Shown.{lfh_spans, owed_or, tag_word, hint_word, MayBeOld, back_holder}
+use Rattle.claim_rule.specs.Shown.{lfh_spans, owed_or, tag_word, hint_word, MayBeOld, MayWantTag, back_holder}
 use Rattle.heap_model.specs.Layers.{LayerState}
 use Rattle.claim_rule.specs.Entries.{IsSettingOf, setting_of, entry}
 use Rattle.claim_rule.specs.Rule.{IsRuled, IsReady, ready_after}
@@ -56,7 +56,7 @@ zero_here i x owes = rw (eq-eqb i i refl) refl
 
 -- the words where one of the tags or the hints is stored, and the heap is as it was
 module _ (l : Limits) (m : Configuration) (owes' owes : List Owed) (i v : ℕ) (other : (j x : ℕ) → (j ≡ i → ⊥) → owed_or owes' j x ≡ owed_or owes j x)
-    (tag_is : (page : ℕ) → page < 256 * l.segments → 2182 + page ≡ i → (v ≡ owed_or owes' (2182 + page) (tag_word (lfh_spans m.state.back.area) page)) × ((v ≡ tag_word (lfh_spans m.state.back.area) page) ⊎ (v ≡ 0)))
+    (tag_is : (page : ℕ) → page < 256 * l.segments → 2182 + page ≡ i → (v ≡ owed_or owes' (2182 + page) (tag_word (lfh_spans m.state.back.area) page)) × ((v ≡ tag_word (lfh_spans m.state.back.area) page) ⊎ ((v ≡ 0) × MayWantTag m page)))
     (hint_is : (b t : ℕ) → 1 ≤ b → b ≤ 128 → t < 16 → 118 + 16 * b + t ≡ i → (v ≡ owed_or owes' (118 + 16 * b + t) (hint_word m.state.back.area m.now.span_history b t)) × (v ≡ hint_word m.state.back.area m.now.span_history b t)) where
   owed_behind : 134 ≤ i → i < 2182 + 256 * l.segments → IsBehind l m m owes' owes i v
   owed_behind low high = record {
@@ -73,10 +73,10 @@ module _ (l : Limits) (m : Configuration) (owes' owes : List Owed) (i v : ℕ) (
   owed_soundly_still : (n : ℕ) → m.state.gate.locks.back ≡ Some n → IsOwedSoundly l m owes → IsOwedSoundly l m owes'
   owed_soundly_still n held f = record {
     tags = λ page lp. elim (cases_eq (2182 + page) i) [
-      | inl e ↦ let k = tag_is page lp e in ⊎_elim (λ (z : v ≡ tag_word (lfh_spans m.state.back.area) page). inl (sym k.0 ∙ z)) (λ (z : v ≡ 0). inr (sym k.0 ∙ z)) k.1
+      | inl e ↦ let k = tag_is page lp e in ⊎_elim (λ (z : v ≡ tag_word (lfh_spans m.state.back.area) page). inl (sym k.0 ∙ z)) (λ (z : (v ≡ 0) × MayWantTag m page). inr (sym k.0 ∙ z.0, z.1)) k.1
       | inr ne ↦
           let e = other (2182 + page) (tag_word (lfh_spans m.state.back.area) page) ne in
-          ⊎_elim (λ (z : owed_or owes (2182 + page) (tag_word (lfh_spans m.state.back.area) page) ≡ tag_word (lfh_spans m.state.back.area) page). inl (e ∙ z)) (λ (z : owed_or owes (2182 + page) (tag_word (lfh_spans m.state.back.area) page) ≡ 0). inr (e ∙ z)) (f.tags page lp)
+          ⊎_elim (λ (z : owed_or owes (2182 + page) (tag_word (lfh_spans m.state.back.area) page) ≡ tag_word (lfh_spans m.state.back.area) page). inl (e ∙ z)) (λ (z : (owed_or owes (2182 + page) (tag_word (lfh_spans m.state.back.area) page) ≡ 0) × MayWantTag m page). inr (e ∙ z.0, z.1)) (f.tags page lp)
     ];
     heads = f.heads;
     hints = λ b t lb hb ft. elim (cases_eq (118 + 16 * b + t) i) [
@@ -140,7 +140,7 @@ module _ {T : Type 0} (stands : T → LayerState) (o : Opening) (slots id n : �
         refl,
         shown_behind o.limits r.lead.counted (after s (now_at s) (entry n deed)) (now_at s) r.owes r.owes st.words (active_at b) 1 (omega arith) (omega arith)
             (active_behind o.limits s (now_at s) r.owes b lt)
-            (still_owed o.limits (after s (now_at s) (entry n deed)) (now_at s) r.owes refl refl refl (owed_soundly o.limits r.lead.counted (now_at s) r.owes st.words d.words)) d.words,
+            (still_owed o.limits (after s (now_at s) (entry n deed)) (now_at s) r.owes refl refl refl refl (owed_soundly o.limits r.lead.counted (now_at s) r.owes st.words d.words)) d.words,
         homes_kept stands o (after s (now_at s) (entry n deed)).state (now_at s).state st.homes (homes_but _ _ whats.Vs refl locked (vs_else s b)) d.home,
       )) in
       (a.0, keeps, tt, a.1, record { adds = adds_of me (a.0, me.1) n es deed h.role a.2; slot = refl; owes = a.3 })
@@ -151,7 +151,7 @@ module _ {T : Type 0} (stands : T → LayerState) (o : Opening) (slots id n : �
       (held : (s : Setting) → IsSettingOf me.0.opening me.0.roll s → holds (ready_after s me.0 es).state.gate n whats.Back ≡ true)
       (other : (owes : List Owed) (j x : ℕ) → (j ≡ i → ⊥) → owed_or (owed owes) j x ≡ owed_or owes j x)
       (tag_is : (s : Setting) → IsSettingOf o r.lead.roll s → (page : ℕ) → page < 256 * o.limits.segments → 2182 + page ≡ i
-      → (v ≡ owed_or (owed r.owes) (2182 + page) (tag_word (lfh_spans (now_at s).state.back.area) page)) × ((v ≡ tag_word (lfh_spans (now_at s).state.back.area) page) ⊎ (v ≡ 0)))
+      → (v ≡ owed_or (owed r.owes) (2182 + page) (tag_word (lfh_spans (now_at s).state.back.area) page)) × ((v ≡ tag_word (lfh_spans (now_at s).state.back.area) page) ⊎ ((v ≡ 0) × MayWantTag (now_at s) page)))
       (hint_is : (s : Setting) → IsSettingOf o r.lead.roll s → (b t : ℕ) → 1 ≤ b → b ≤ 128 → t < 16 → 118 + 16 * b + t ≡ i
       → (v ≡ owed_or (owed r.owes) (118 + 16 * b + t) (hint_word (now_at s).state.back.area (now_at s).now.span_history b t)) × (v ≡ hint_word (now_at s).state.back.area (now_at s).now.span_history b t)) where
     held_here : (s : Setting) → IsSettingOf o r.lead.roll s → (now_at s).state.gate.locks.back ≡ Some n
@@ -192,12 +192,17 @@ module _ {T : Type 0} (stands : T → LayerState) (o : Opening) (slots id n : �
       (is ∙ sym (subst (λ (z : ℕ). owed_or (paid_off (tag_at page) r.owes) z (tag_word (lfh_spans (now_at s).state.back.area) p) ≡ tag_word (lfh_spans (now_at s).state.back.area) p) (sym e) (paid_here (tag_at page) (tag_word (lfh_spans (now_at s).state.back.area) p) r.owes)), inl is))
       (λ s q b t lb hb ft e. absurd (omega arith))
 
-  -- 0 in place of a tag
-  pub clears_tag : (page : ℕ) → page < 256 * o.limits.segments → ((s : Setting) → IsSettingOf me.0.opening me.0.roll s → holds (ready_after s me.0 es).state.gate n whats.Back ≡ true)
+  -- the heap lock has an owner where the caller knows that it is that
+  has_owner : (s : Setting) → IsSettingOf o r.lead.roll s → is_caller n (ready_after s me.0 es).state.gate.owner ≡ true → is_some (now_at s).state.gate.owner ≡ true
+  has_owner s q own = ap is_some (holder_is_it n (now_at s).state.gate.owner ((before stands o st r id n me.0 es at h s q).carried.agrees.owner ∙ own))
+
+  -- 0 in place of a tag, by the owner of the heap lock
+  pub clears_tag : (page : ℕ) → page < 256 * o.limits.segments
+      → ((s : Setting) → IsSettingOf me.0.opening me.0.roll s → (holds (ready_after s me.0 es).state.gate n whats.Back ≡ true) × (is_caller n (ready_after s me.0 es).state.gate.owner ≡ true))
       → Storing (λ z m'. put_word es (owed_zero (tag_at page)) (step slots (tag_at page) 0 0 none) me 0 m') (tag_at page) 0 0
   clears_tag page lt ok =
-      puts (tag_at page) 0 (owed_zero (tag_at page)) (omega arith) (omega arith) ok (λ owes j x ne. zero_else (tag_at page) j x owes ne)
-      (λ s q p lp e. (sym (subst (λ (z : ℕ). owed_or (owed_zero (tag_at page) r.owes) z (tag_word (lfh_spans (now_at s).state.back.area) p) ≡ 0) (sym e) (zero_here (tag_at page) (tag_word (lfh_spans (now_at s).state.back.area) p) r.owes)), inr refl))
+      puts (tag_at page) 0 (owed_zero (tag_at page)) (omega arith) (omega arith) (λ s q. (ok s q).0) (λ owes j x ne. zero_else (tag_at page) j x owes ne)
+      (λ s q p lp e. (sym (subst (λ (z : ℕ). owed_or (owed_zero (tag_at page) r.owes) z (tag_word (lfh_spans (now_at s).state.back.area) p) ≡ 0) (sym e) (zero_here (tag_at page) (tag_word (lfh_spans (now_at s).state.back.area) p) r.owes)), inr (refl, inl (has_owner s q (ok s (in_view s q)).1))))
       (λ s q b t lb hb ft e. absurd (omega arith))
 
   -- the hint of the state

@@ -3,7 +3,7 @@ use Rattle.std.specs.Prelude.{◌≡◌, ℕ, ◌*◌, ◌<◌, ◌≤◌, true,
 use mathlib.Core.Option.{none}
 use Rattle.atomic_table.specs.Table.{Me, step, Allows}
 use Rattle.heap_model.specs.declared.Entry.{Entry}
-use Rattle.heap_model.specs.State.{Setting, holds}
+use Rattle.heap_model.specs.State.{Setting, holds, is_caller}
 use Rattle.heap_model.specs.declared.Opening.{Opening}
 use Rattle.claim_rule.specs.declared.views.View.{View}
 use Rattle.claim_rule.specs.Places.{bitmap_at, bit_of_block, hint_at, active_at, tag_at}
@@ -37,11 +37,11 @@ module _ {T : Type 0} (stands : T → LayerState) where
       → ((s : Setting) → IsSettingOf me.0.opening me.0.roll s → (holds (ready_after s me.0 es).state.gate n whats.Back ≡ true) × (hint_word (ready_after s me.0 es).state.back.area (ready_after s me.0 es).now.span_history b t ≡ v))
       → Allows (IsRuled stands o) slots id me (hint_at b t) (λ _. v) (λ _. put_word es (paid_off (hint_at b t)) (step slots (hint_at b t) v 0 none) me v)
 
-  -- It stores 0 in place of a tag, and owes the word then.
+  -- It stores 0 in place of a tag where it owns the heap lock, and owes the word then.
   abbrev pub ClearTagLaw : Type 0
   ClearTagLaw =
       (o : Opening) (slots id n page : ℕ) (me : Me (Option T) View) (es : List Entry) → IsReady n me.0 es → page < 256 * o.limits.segments
-      → ((s : Setting) → IsSettingOf me.0.opening me.0.roll s → holds (ready_after s me.0 es).state.gate n whats.Back ≡ true)
+      → ((s : Setting) → IsSettingOf me.0.opening me.0.roll s → (holds (ready_after s me.0 es).state.gate n whats.Back ≡ true) × (is_caller n (ready_after s me.0 es).state.gate.owner ≡ true))
       → Allows (IsRuled stands o) slots id me (tag_at page) (λ _. 0) (λ _. put_word es (owed_zero (tag_at page)) (step slots (tag_at page) 0 0 none) me 0)
 
   -- The holder of Back claims the first block of a subsegment that it makes with this step: nobody else can have it.

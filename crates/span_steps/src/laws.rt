@@ -19,7 +19,7 @@ pub fn put_hint_keeps<T: Stands>()
     ensures { PutHintLaw T.stands }
 {}
 
-/// Clearing a tag under the back end's lock keeps the rule.
+/// Clearing a tag under the back end's lock, by the owner of the heap lock, keeps the rule.
 pub fn clear_tag_keeps<T: Stands>()
     ensures { ClearTagLaw T.stands }
 {}

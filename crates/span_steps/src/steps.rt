@@ -1,6 +1,6 @@
 //! Each step of these kinds on a table, with the entries that it carries.
 ghost use Rattle.heap_model.specs.declared.What.TheVariants as whats;
-ghost use Rattle.heap_model.specs.State.{holds, Setting};
+ghost use Rattle.heap_model.specs.State.{holds, is_caller, Setting};
 ghost use Rattle.claim_rule.specs.Shown.{lfh_spans, tag_word, hint_word};
 ghost use Rattle.claim_rule.specs.Places.{bitmap_at, bit_of_block, hint_at, active_at, tag_at};
 ghost use Rattle.span_steps.specs.Installs.{IsReserving, MayInstall, installed};
@@ -71,7 +71,7 @@ pub fn put_hint_as<T: Stands, B: Target, E: Carried>(
     top.store::<PutsHint<B, E>>(place, word, value);
 }
 
-/// Clears a tag under the back end's lock.
+/// Clears a tag under the back end's lock, for the owner of the heap lock.
 pub fn clear_tag_as<T: Stands, B: Target, E: Carried>(
     top: &Table<T>,
     place: &mut Seating<T>,
@@ -81,7 +81,7 @@ pub fn clear_tag_as<T: Stands, B: Target, E: Carried>(
     requires word { word ≡ tag_at B.number }
     requires page { B.number < 256 * top.now.key.limits.segments }
     requires ready { IsReady (number_of place.old.me.0.role) place.old.me.0 E.entries }
-    requires may { (s : Setting) → IsSettingOf place.old.me.0.opening place.old.me.0.roll s → holds (ready_after s place.old.me.0 E.entries).state.gate (number_of place.old.me.0.role) whats.Back ≡ true }
+    requires may { (s : Setting) → IsSettingOf place.old.me.0.opening place.old.me.0.roll s → (holds (ready_after s place.old.me.0 E.entries).state.gate (number_of place.old.me.0.role) whats.Back ≡ true) × (is_caller (number_of place.old.me.0.role) (ready_after s place.old.me.0 E.entries).state.gate.owner ≡ true) }
     ensures table { place.new.table_id ≡ place.old.table_id }
     ensures told { put_word E.entries (owed_zero (tag_at B.number)) (step top.now.table_id.slots word 0 0 none) place.old.me 0 place.new.me }
 {

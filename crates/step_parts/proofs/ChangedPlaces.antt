@@ -46,7 +46,7 @@ module _ (l : Limits) (m' m : Configuration) (owes : List Owed) (at v : ℕ) (qs
 
   -- what is owed stays
   pub owed_places : IsOwedSoundly l m owes → IsOwedSoundly l m' owes
-  owed_places f = still_owed l m' m owes (ap (λ (x : HeapState). x.back.area) e) h (ap (λ (x : HeapState). x.gate.locks.back) e) f
+  owed_places f = still_owed l m' m owes (ap (λ (x : HeapState). x.back.area) e) h (ap (λ (x : HeapState). x.gate.locks.back) e) (ap (λ (x : HeapState). x.gate.owner) e) f
 
 ---- The one place that begins at an address
 

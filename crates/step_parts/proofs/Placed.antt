@@ -26,7 +26,7 @@ use Rattle.serial_laws.proofs.Sorted.{none_found}
 use Rattle.search_laws.proofs.Blocks.{whole_granules, some_size, number_is}
 use Rattle.claim_rule.specs.declared.views.Owed.{Owed}
 use Rattle.claim_rule.specs.Places.{word_count, bitmap_at, bit_of_block}
-use Rattle.claim_rule.specs.Shown.{AreAllShown, lfh_spans, bitmap_word, size_word, starts_in, owed_or, tag_word, hint_word, is_head, are_made_by, HintsAreHeads, MayBeOld}
+use Rattle.claim_rule.specs.Shown.{AreAllShown, lfh_spans, bitmap_word, size_word, starts_in, owed_or, tag_word, hint_word, is_head, are_made_by, HasMaker, MayWantTag, HintsAreHeads, MayBeOld}
 use Rattle.claim_rule.specs.Entries.{entry}
 use Rattle.step_parts.specs.Seen.{IsSeen}
 use Rattle.step_parts.specs.Claims.{CanClaim, MayClaim, owed_by_place, IsUnder}
@@ -169,7 +169,7 @@ module _ (l : Limits) (s : Setting) (m : Configuration) (n : ℕ) (f : IsFront l
 
   -- what is owed
   pub sound_free : (owes : List Owed) → holds m.state.gate n whats.Back ≡ false → IsOwedSoundly l m owes → IsOwedSoundly l next owes
-  sound_free owes b h = still_owed l next m owes refl (history_is false b) refl h
+  sound_free owes b h = still_owed l next m owes refl (history_is false b) refl refl h
 
   ---- Under Back
 
@@ -227,12 +227,16 @@ module _ (l : Limits) (s : Setting) (m : Configuration) (n : ℕ) (f : IsFront l
       ⊎_elim (λ (z : (word ≡ 0) × (are_made_by m.state.back.area m.now.span_history w.0 b t ≡ true)). inl (z.0, ap (λ (r : SpanHistory). are_made_by m.state.back.area r w.0 b t) (history_is true mine) ∙ z.1)) (λ (z : is_head m.state.back.area b t word ≡ true). inr z) w.2,
     )
 
+    wanting_kept : (page : ℕ) → MayWantTag m page → MayWantTag next page
+    wanting_kept page w = ⊎_elim (λ (own : is_some m.state.gate.owner ≡ true). inl own)
+        (λ (k : HasMaker m.state.back.area m.now.span_history page). inr (λ y e. ap (λ (r : SpanHistory). is_some (r.makers y.first)) (history_is true mine) ∙ k y e)) w
+
     -- what is owed
     pub sound_under : IsOwedSoundly l m owes → IsOwedSoundly l next (owes_now true owes)
     sound_under h = record {
       tags = λ page lp.
           let e = tag_owed page (tag_word (lfh_spans m.state.back.area) page) in
-          ⊎_elim (λ (z : owed_or owes (2182 + page) (tag_word (lfh_spans m.state.back.area) page) ≡ tag_word (lfh_spans m.state.back.area) page). inl (e ∙ z)) (λ (z : owed_or owes (2182 + page) (tag_word (lfh_spans m.state.back.area) page) ≡ 0). inr (e ∙ z)) (h.tags page lp);
+          ⊎_elim (λ (z : owed_or owes (2182 + page) (tag_word (lfh_spans m.state.back.area) page) ≡ tag_word (lfh_spans m.state.back.area) page). inl (e ∙ z)) (λ (z : (owed_or owes (2182 + page) (tag_word (lfh_spans m.state.back.area) page) ≡ 0) × MayWantTag m page). inr (e ∙ z.0, wanting_kept page z.1)) (h.tags page lp);
       heads = heads_after h.heads;
       hints = λ b t lb hb ft. elim (cases_Bool (eqb b x.bucket && eqb t x.slot)) [
         | inl g ↦

@@ -1,6 +1,6 @@
-use Rattle.std.proofs.Common.{◌+◌, ◌*◌, ◌≤◌, sym, ◌∙◌, subst}
+use Rattle.std.proofs.Common.{ℕ, ◌+◌, ◌*◌, ◌≤◌, ◌==◌, sym, ap, ◌∙◌, subst}
 use Rattle.heap_model.specs.declared.Opening.{Opening}
-use Rattle.lfh_spans.proofs.Retired.{gives_some, page_small, pages_small, of_tag, retires, retired_runs, retired_stands, retired_back}
+use Rattle.lfh_spans.proofs.Retired.{deep, gives_some, page_small, pages_small, of_tag, retires, retired_runs, retired_stands, retired_back}
 use Rattle.lfh_spans.proofs.retire.Goals as goal
 
 pub look_tag-tag-requires-clause-page : goal.look_tag-tag-requires-clause-page
@@ -23,6 +23,11 @@ pub clear_tags-requires-clause-few : goal.clear_tags-requires-clause-few
 clear_tags-requires-clause-few g c =
     subst (λ (o : Opening). c.args.head + c.give-pages.result ≤ 256 * o.limits.segments) (sym (c.look_hint-hint.ensures.runs.does.opening ∙ c.look_tag-tag.ensures.runs.does.opening))
     (pages_small c.args.c.now c.args.back.now c.args.head c.check.ensures.stands c.requires.held c.requires.paid c.requires.back c.region-sound.ensures.sound c.requires.span c.requires.may c.give-pages.result c.give-pages.ensures.pages)
+
+pub clear_tags-requires-clause-owner : goal.clear_tags-requires-clause-owner
+clear_tags-requires-clause-owner g c =
+    ap (λ (n : ℕ). n == 0) (c.look_hint-hint.ensures.stands.depth ∙ c.look_tag-tag.ensures.stands.depth)
+    ∙ deep c.args.c.now c.args.back.now c.args.head c.check.ensures.stands c.requires.held c.requires.paid c.requires.back c.region-sound.ensures.sound c.requires.span c.requires.may
 
 pub give_up-requires-clause-bucket : goal.give_up-requires-clause-bucket
 give_up-requires-clause-bucket g c =

@@ -1,21 +1,22 @@
-use Rattle.std.proofs.Common.{◌≡◌, ◌∙◌, true, [], subst, ap}
+use Rattle.std.proofs.Common.{◌≡◌, ◌==◌, ◌∙◌, true, [], subst, ap}
 use Rattle.random_pick.specs.CallerDraws.{words_of}
 use Rattle.claim_rule.specs.Places.{tag_at}
-use Rattle.heap_model.specs.State.{holds}
+use Rattle.heap_model.specs.State.{holds, is_caller}
 use Rattle.heap_model.specs.declared.What.TheVariants as whats
 use Rattle.heap_gate.specs.Token.{Token, is_out}
 use Rattle.heap_gate.specs.Seated.{Face, tok}
 use Rattle.heap_gate.specs.Calls.{Runs, Stands, stance}
 use Rattle.heap_gate.proofs.Tokens.{as_was, faced, goes_by, may_by}
 use Rattle.span_steps.specs.Stores.{owed_zero}
-use Rattle.lfh_spans.proofs.Quiet.{quiet, quiet_runs, has_back}
+use Rattle.lfh_spans.proofs.Quiet.{quiet, quiet_runs, has_back, has_lock}
 use Rattle.lfh_spans.proofs.stores.clear_tag.Goals as goal
 
 pub clear_tag_by-requires-clause-may : goal.clear_tag_by-requires-clause-may
 clear_tag_by-requires-clause-may g c =
     let i = c.c.inside in let f : Face = record { number = i.number; prepared = i.prepared.items; pending = i.pending; call = i.call; fresh = i.fresh; locked = i.locked; inside = i.inside; depth = i.depth; whole = i.whole; free = i.free; drawn = i.drawn } in let h = c.c.invariant in let z = i.place.table_id in let me = i.place.me in let stream = words_of i.draws in let v = c.c.view_is in
     let o = ap (λ (t : Token). is_out whats.Back t.out) v ∙ c.requires.held in
-    may_by z me f i.slot stream h (λ m n. holds m.state.gate n whats.Back ≡ true) (λ s q. has_back z me f i.slot stream h o s q)
+    let d = ap (λ (t : Token). t.depth == 0) v ∙ c.requires.owner in
+    may_by z me f i.slot stream h (λ m n. (holds m.state.gate n whats.Back ≡ true) × (is_caller n m.state.gate.owner ≡ true)) (λ s q. (has_back z me f i.slot stream h o s q, has_lock z me f i.slot stream h d s q))
 
 pub invariant_of-c : goal.invariant_of-c
 invariant_of-c g c =
