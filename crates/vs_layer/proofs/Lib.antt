@@ -26,3 +26,4 @@ pub mod DropBlock
 pub mod Standing
 pub mod ByPlace
 pub mod Told
+pub mod Inside

@@ -19,12 +19,13 @@ mod resizing;
 #[cfg(test)]
 mod tests;
 
-ghost use Rattle.std.specs.Prelude.{◌≡◌, ◌≤◌, IfOk, true};
+ghost use Rattle.std.specs.Prelude.{◌≡◌, ◌*◌, ◌≤◌, IfOk, true, length};
 ghost use Rattle.heap_model.specs.Geometry.{span_pages_of, units_of};
 ghost use Rattle.heap_model.specs.Limits.{AreValid};
 ghost use Rattle.heap_model.specs.Stay.{is_due};
 ghost use Rattle.heap_model.specs.State.{updated, opening};
-ghost use Rattle.vs_layer.specs.Kept.{active_of, part_of};
+ghost use Rattle.heap_soundness.specs.Sound.{AreInOrder, AreAt, IsInVs};
+ghost use Rattle.vs_layer.specs.Kept.{active_of, part_of, places_of};
 ghost use Rattle.heap_model.specs.declared.Opening.{Opening};
 ghost use Rattle.heap_model.specs.Layers.{StandsForVs, header_key};
 ghost use Rattle.vs_layer.specs.Effects.{nothing_kept, ShowsChunks};
@@ -74,7 +75,7 @@ pub(crate) struct Tiling {
 }
 
 impl Model for Vs {
-    ghost use Rattle.std.specs.Prelude.{◌≡◌, length};
+    ghost use Rattle.std.specs.Prelude.{◌≡◌, ◌*◌, length};
     ghost use Rattle.std.specs.Vec.{vec_capacity};
     ghost use Rattle.vs_layer.specs.Kept.{VsKept};
     ghost use Rattle.vs_layer.specs.Sound.{spans_from, IsSound};
@@ -83,7 +84,7 @@ impl Model for Vs {
 
     ghost view = { λ v. record { limits = v.limits; spans = spans_from 0 v.pages.items; chunks = v.tiling.heads; served = v.counts.served.items; active = v.active.items } };
 
-    ghost invariant = { λ v. IsSound (record { limits = v.limits; spans = spans_from 0 v.pages.items; chunks = v.tiling.heads; served = v.counts.served.items; active = v.active.items }) v.pages.items v.tiling.index v.counts.live.items × (vec_capacity v.pages ≡ length v.pages.items) × (vec_capacity v.active ≡ length v.active.items) × (vec_capacity v.counts.live ≡ length v.counts.live.items) × (vec_capacity v.counts.served ≡ length v.counts.served.items) };
+    ghost invariant = { λ v. IsSound (record { limits = v.limits; spans = spans_from 0 v.pages.items; chunks = v.tiling.heads; served = v.counts.served.items; active = v.active.items }) v.pages.items v.tiling.index v.counts.live.items × (vec_capacity v.pages ≡ length v.pages.items) × (vec_capacity v.active ≡ length v.active.items) × (vec_capacity v.counts.live ≡ length v.counts.live.items) × (vec_capacity v.counts.served ≡ length v.counts.served.items) × (length v.pages.items ≡ 256 * v.limits.segments) };
 }
 
 impl Stands for Vs {
@@ -156,6 +157,10 @@ impl Vs {
         ensures chunks { result.now ≡ self.now.chunks }
         // they are the places and the gaps, and tile the spans
         ensures shown { ShowsChunks self.now }
+        ensures in_order { AreInOrder 0 self.now.spans }
+        ensures inside { AreAt (IsInVs self.now.spans) (places_of self.now) }
+        // one for each granule of the segments
+        ensures granules { length self.now.chunks.heads ≡ 65536 * self.now.limits.segments }
     {
         &self.tiling.heads
     }

@@ -42,6 +42,7 @@ invariant_of-self c = (
   c.self.invariant.2,
   c.self.invariant.3,
   c.self.invariant.4,
+  length-set c.self.inside.pages.items c.args.first c.args.pages ∙ c.self.invariant.5,
 )
 
 pub returns-clause-spans : goal.returns-clause-spans

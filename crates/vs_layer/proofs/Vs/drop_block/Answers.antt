@@ -149,6 +149,7 @@ invariant_of-self c =
       c.self.invariant.2,
       less_room (bucket_of c.size_in.result) c.self.inside.counts.live.items c.dropped.new.self.live.items _ _ c.self.invariant.3 c.dropped.ensures.live_room c.dropped.ensures.live,
       subst (λ (v : Vec _ _). vec_capacity v ≡ length v.items) (sym c.dropped.ensures.served) c.self.invariant.4,
+      length-set c.self.inside.pages.items (granule / 256) 0 ∙ c.self.invariant.5,
     )
 
 pub returns-then-is_none-clause-dropped : goal.returns-then-is_none-clause-dropped
@@ -211,6 +212,7 @@ invariant_of-self-2 c =
       c.self.invariant.2,
       less_room (bucket_of c.size_in.result) c.self.inside.counts.live.items c.dropped.new.self.live.items _ _ c.self.invariant.3 c.dropped.ensures.live_room c.dropped.ensures.live,
       subst (λ (v : Vec _ _). vec_capacity v ≡ length v.items) (sym c.dropped.ensures.served) c.self.invariant.4,
+      c.self.invariant.5,
     )
 
 pub returns-clause-dropped : goal.returns-clause-dropped

@@ -1,4 +1,5 @@
-use Rattle.std.proofs.Common.{◌≡◌, ◌*◌, [], replicate, false, rules, refl, ap, ◌∙◌}
+use Rattle.std.proofs.Common.{◌≡◌, ◌*◌, [], length, replicate, false, rules, refl, ap, ◌∙◌}
+use Rattle.std.proofs.lemmas.List.{length-replicate}
 use Rattle.vs_split.specs.Chunks.{Chunks}
 use Rattle.vs_layer.specs.Sound.{spans_from}
 use Rattle.vs_layer.proofs.Opening.{opening_sound}
@@ -22,6 +23,7 @@ invariant_of-result c = (
   search rules,
   c.in_ok-new-3.ensures.full.0,
   c.in_ok-new-3.ensures.full.1,
+  (let none : c.in_ok-filled.field-0.items ≡ replicate (256 * c.args.limits.now.segments) 0 = search rules in ap length none ∙ length-replicate (256 * c.args.limits.now.segments) 0),
 )
 
 pub returns-clause-nothing : goal.returns-clause-nothing

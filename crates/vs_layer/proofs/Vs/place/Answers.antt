@@ -58,6 +58,7 @@ invariant_of-self c = (
   c.self.invariant.2,
   more_room (bucket_of c.args.n) c.self.inside.counts.live.items c.placed.new.self.live.items _ _ c.self.invariant.3 c.placed.ensures.live_room c.placed.ensures.live,
   once_room (bucket_of c.args.n) c.self.inside.counts.served.items c.placed.new.self.served.items _ _ c.self.invariant.4 c.placed.ensures.served_room c.placed.ensures.served,
+  c.self.invariant.5,
 )
 
 pub returns-clause-placed : goal.returns-clause-placed

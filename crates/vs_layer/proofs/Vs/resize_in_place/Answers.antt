@@ -108,6 +108,7 @@ invariant_of-self c = (
   more_room (bucket_of c.args.n) (one_less (bucket_of c.size_in.result) c.self.inside.counts.live.items) c.resized.new.self.live.items _ _
       (less_room (bucket_of c.size_in.result) c.self.inside.counts.live.items _ _ _ c.self.invariant.3 refl refl) c.resized.ensures.live_room c.resized.ensures.live,
   subst (λ (v : Vec _ _). vec_capacity v ≡ length v.items) (sym c.resized.ensures.served) c.self.invariant.4,
+  c.self.invariant.5,
 )
 
 pub returns-clause-resizes : goal.returns-clause-resizes
