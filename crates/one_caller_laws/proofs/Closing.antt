@@ -140,8 +140,8 @@ closing_quiet s call old m act c q b h =
     }
 
 -- where nothing more is shown
-close : (s : Setting) (call : Call) (old m : Configuration) (rest : List Act) → IsClosing s call old m → is_compact call ≡ false → ((k : Configuration) → InCall s call k → SearchesNone s k) → Goes s m rest → shape_of rest ≡ [] →
-    IsClosing s call old (configuration_by s m rest)
+close : (s : Setting) (call : Call) (old m : Configuration) (rest : List Act) → IsClosing s call old m → is_compact call ≡ false →
+    ((k : Configuration) → InCall s call k → core_of k ≡ with_spans (core_of old) k.state.back.area.spans → SearchesNone s k) → Goes s m rest → shape_of rest ≡ [] → IsClosing s call old (configuration_by s m rest)
 close s call old m [] c plain none g e = c
 close s call old m (act ∷ rest) c plain none g e =
     let h = may_first s m act rest g in
@@ -149,7 +149,7 @@ close s call old m (act ∷ rest) c plain none g e =
     let n = after s m (by_zero act) in
     elim (cases_Bool (is_quiet act)) [
       | inl q ↦ close s call old n rest (closing_quiet s call old m act c q b h) plain none (goes_after s m act rest g) (ap (λ (b : Bool). cond b (shape_of rest) (act ∷ shape_of rest)) (sym (quiet_left_out act q)) ∙ e)
-      | inr q ↦ elim (shows_or_ends s m act (none m c.within) q b h) [
+      | inr q ↦ elim (shows_or_ends s m act (none m c.within c.core) q b h) [
         | inr u ↦
             let c2 = closing_unspan s call old m u.0 c plain (subst (λ (x : Act). may_follow s m (by_zero x) ≡ true) u.1 h) in
             let f : shape_of (acts.Unspan u.0 ∷ rest) ≡ [] = ap (λ (x : Act). shape_of (x ∷ rest)) (sym u.1) ∙ e in
@@ -167,8 +167,9 @@ pub record Closes (s : Setting) (call : Call) (m : Configuration) (rest : List A
   pub core : core_of (configuration_by s m rest) ≡ closed (core_of m)
   pub hints : (b t : ℕ) → hint (configuration_by s m rest).state.back.area (configuration_by s m rest).now.span_history b t ≡ hint m.state.back.area m.now.span_history b t
 
-pub closes : (s : Setting) (call : Call) (m : Configuration) (rest : List Act) → InCall s call m → is_compact call ≡ false → ((k : Configuration) → InCall s call k → SearchesNone s k) → Goes s m rest → shape_of rest ≡ [] → Closes s call m rest
-closes s call m rest w plain none g e =
+pub closes_so : (s : Setting) (call : Call) (m : Configuration) (rest : List Act) → InCall s call m → is_compact call ≡ false →
+    ((k : Configuration) → InCall s call k → core_of k ≡ with_spans (core_of m) k.state.back.area.spans → SearchesNone s k) → Goes s m rest → shape_of rest ≡ [] → Closes s call m rest
+closes_so s call m rest w plain none g e =
     record { within = c.within; core = c.core ∙ ap (with_spans (core_of m)) (sym used ∙ c.spans); hints = c.hints }
   where
     c : IsClosing s call m (configuration_by s m rest)
@@ -194,3 +195,7 @@ closes s call m rest w plain none g e =
     used = all_kept (is_in_use (core_of m)) (configuration_by s m rest).state.back.area.spans (λ x i.
         sym (same_use (core_of m) (configuration_by s m rest).state.back.area.spans x x.kind) ∙ ap (λ (k : Core). is_in_use k x) (sym c.core)
         ∙ in_use x x.kind refl i (all_at (λ x. IsSoundSpan s (configuration_by s m rest).state.vs.active x x.kind) x (configuration_by s m rest).state.back.area.spans c.within.keeps.of_kinds i))
+
+-- .. of a call that never searches
+pub closes : (s : Setting) (call : Call) (m : Configuration) (rest : List Act) → InCall s call m → is_compact call ≡ false → ((k : Configuration) → InCall s call k → SearchesNone s k) → Goes s m rest → shape_of rest ≡ [] → Closes s call m rest
+closes s call m rest w plain none g e = closes_so s call m rest w plain (λ k v same. none k v) g e

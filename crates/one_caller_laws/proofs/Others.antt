@@ -14,11 +14,11 @@ use Rattle.one_caller_laws.proofs.Words.{get_determined, put_determined, lock_de
 use Rattle.one_caller_laws.proofs.Freeing.{free_determined}
 use Rattle.one_caller_laws.proofs.Compact.{compact_determined}
 use Rattle.one_caller_laws.proofs.Allocs.{allocation_determined}
-use Rattle.one_caller_laws.proofs.InPlace.{in_place_determined}
+use Rattle.one_caller_laws.proofs.Reallocs.{in_place_determined}
 use Rattle.one_caller_laws.proofs.Runs.{each_then_all}
 
 -- so many bytes have no bucket
-unbucketed : (n : ℕ) → 16368 < n → bucket_of n ≡ None
+pub unbucketed : (n : ℕ) → 16368 < n → bucket_of n ≡ None
 unbucketed n l =
     let a = lt-leb (max 1 n) 1024 (omega arith) in
     let b = lt-leb (max 1 n) 2048 (omega arith) in
@@ -27,7 +27,7 @@ unbucketed n l =
     let e = lt-leb (max 1 n) 16368 (omega arith) in
     rw (a, b, c, d, e) refl
 
-each_of_others : (call : Call) → IsOfOthers call → IsDetermined call
+pub each_of_others : (call : Call) → IsOfOthers call → IsDetermined call
 each_of_others (calls.Alloc n flags) h = λ s m k reply other rest others valid b c alike x y.
     allocation_determined s m k reply other rest others n flags valid b c alike (ap (λ (o : Option ℕ). for_some o (goes_to_lfh m.state.vs)) (unbucketed n h)) x y
 each_of_others (calls.Free a) h = free_determined a

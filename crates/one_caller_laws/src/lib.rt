@@ -5,7 +5,11 @@ ghost use Rattle.std.specs.Prelude.{◌≡◌, ℕ, true};
 ghost use Rattle.heap_model.specs.declared.Call.TheVariants as calls;
 ghost use Rattle.heap_model.specs.declared.Flags.{Flags};
 ghost use Rattle.one_caller_laws.specs.OneCall.{AllocationIsDetermined, IsDetermined};
+ghost use Rattle.one_caller_laws.specs.UnderBack.{EachThenAllUnderBack, IsDeterminedUnderBack, RunsUnderBackAreOne};
 ghost use Rattle.one_caller_laws.specs.Asked.{EachThenAll, RunsOfOthersAreOne};
+ghost use Rattle.one_caller_laws.specs.Moving.{ReallocationIsDetermined, RunsThatMoveAreOne};
+ghost use Rattle.one_caller_laws.specs.MovingUnderBack.{MoveUnderBackIsDetermined};
+ghost use Rattle.one_caller_laws.specs.AllUnderBack.{AllRunsUnderBackAreOne};
 ghost use Rattle.one_caller_laws.specs.Worked.{SearchIsNotDetermined, SerialIsNoFunction, TwoHints, TwoReplies, TwoWays};
 
 /// An allocation in which the front end has no part: large, of the back end, or of the variable-size layer.
@@ -53,6 +57,11 @@ pub fn in_place_is_determined()
     ensures { (a n : ℕ) (flags : Flags) → flags.in_place ≡ true → IsDetermined (calls.Realloc a n flags) }
 {}
 
+/// A reallocation for which the front end makes no place: whether its block stays, moves with its words, is refused, or is not there.
+pub fn reallocation_is_determined()
+    ensures { ReallocationIsDetermined }
+{}
+
 /// A compaction.
 pub fn compaction_is_determined()
     ensures { IsDetermined calls.Compact }
@@ -66,6 +75,41 @@ pub fn each_then_all()
 /// So are two runs of a script in which the front end has no part, and no block is reallocated but in place.
 pub fn runs_of_others_are_one()
     ensures { RunsOfOthersAreOne }
+{}
+
+/// .. or blocks are reallocated to sizes that the front end does not serve.
+pub fn runs_that_move_are_one()
+    ensures { RunsThatMoveAreOne }
+{}
+
+/// An allocation of any size, as long as what a pass of a search finds is placed under the lock of the back end.
+pub fn allocation_under_back_is_determined()
+    ensures { (n : ℕ) (flags : Flags) → IsDeterminedUnderBack (calls.Alloc n flags) }
+{}
+
+/// A reallocation of a block that is not of the front end, to any size, under that premise.
+pub fn move_under_back_is_determined()
+    ensures { MoveUnderBackIsDetermined }
+{}
+
+/// .. and one of any block, which may be taken amid the search for its new place.
+pub fn reallocation_under_back_is_determined()
+    ensures { (a n : ℕ) (flags : Flags) → IsDeterminedUnderBack (calls.Realloc a n flags) }
+{}
+
+/// Where each call that a script asks is determined so, two runs of it under that premise are one.
+pub fn each_then_all_under_back()
+    ensures { EachThenAllUnderBack }
+{}
+
+/// So are two runs, under that premise, of a script that asks no reallocation but in place or to a size that the front end does not serve.
+pub fn runs_under_back_are_one()
+    ensures { RunsUnderBackAreOne }
+{}
+
+/// So are any two runs of any script under that premise: all that one caller can ask is determined.
+pub fn all_runs_under_back_are_one()
+    ensures { AllRunsUnderBackAreOne }
 {}
 
 /// A worked pair of different lists of one call, with one reply.

@@ -1,4 +1,4 @@
-use Rattle.one_caller_laws.proofs.InPlace.{in_place_determined}
+use Rattle.one_caller_laws.proofs.Reallocs.{in_place_determined}
 use Rattle.one_caller_laws.proofs.in_place_is_determined.Goals as goal
 
 pub returns : goal.returns
