@@ -11,3 +11,10 @@ pub mod HintSearch
 pub mod Passing
 pub mod Passed
 pub mod Spent
+pub mod BucketPages
+pub mod Hinting
+pub mod Entering
+pub mod Looking
+pub mod NoneThere
+pub mod Making
+pub mod Taking

@@ -28,16 +28,16 @@ use Rattle.lfh_search.specs.Acts.{by, is_reading, AreReadings, losses}
 use Rattle.lfh_search.specs.Standing.{dried, stage_onto}
 use Rattle.lfh_search.specs.Results.{Went, WaitsInside, HasPlaced, IsBeaten}
 use Rattle.lfh_search.specs.Readings.{KnowsHint, IsDried}
-use Rattle.lfh_search.specs.Passes.{IsOfPass, IsPassing, HasPassed}
+use Rattle.lfh_search.specs.Passes.{IsOfPass, IsPassing, IsThere, HasPassed, HasPassedTo}
 use Rattle.lfh_search.proofs.Steps.{readings-append}
 use Rattle.lfh_search.proofs.Words.{left, before, back_on, went_then}
 use Rattle.lfh_search.proofs.Seen.{waits_none}
 use Rattle.lfh_search.proofs.Placing.{placed_then}
 use Rattle.lfh_search.proofs.WordLoop.{losses-append}
 use Rattle.lfh_search.proofs.Subsegment.{Same, same_on, slot_on}
-use Rattle.lfh_search.proofs.Passing.{read_on, not_between}
+use Rattle.lfh_search.proofs.Passing.{here, read_on, not_between}
 
-span_left : (s : Setting) (n : ℕ) (its : List Act) (m : Configuration) → AreReadings its → ((configuration_after s m (by n its)).now.calls n).no_span ≡ (m.now.calls n).no_span
+pub span_left : (s : Setting) (n : ℕ) (its : List Act) (m : Configuration) → AreReadings its → ((configuration_after s m (by n its)).now.calls n).no_span ≡ (m.now.calls n).no_span
 span_left s n [] m are = refl
 span_left s n (act ∷ rest) m are = span_left s n rest (after s m (entry n act)) are.1 ∙ one act are.0
   where
@@ -111,8 +111,11 @@ begins c back course lost w i = record {
 }
 
 module _ (old c : Token) (back : Kept) (course : Course) (lost from so_far : ℕ) (y : Same old c) (z : Goes old c back course lost from so_far) (whole : IsWhole back.words) (small : course.bucket < 256) (e : Token) (page : ℕ) (m : IsFirstMatch back.words head_mask (head_mark course.bucket (own_slot c)) from page) where
-  pub claimed : (i : ℕ) → HasPlaced c e course.bucket page i → HasPlaced old e course.bucket page i
-  claimed i x = placed_then old c e course.bucket page i z.its z.are z.went y.slot x
+  pub claimed : (i : ℕ) → HasPlaced c e course.bucket page i → HasPassedTo old e back course.bucket page i
+  claimed i x = let w = here c back course z.search from so_far z.passing whole small page m in record {
+    placed = placed_then old c e course.bucket page i z.its z.are z.went y.slot x;
+    there = subst (λ (t : ℕ). IsThere (area_of back) course.bucket t page) y.slot (record { span = w.0; there = w.1; begins = w.2 });
+  }
 
   pub beaten : IsBeaten c e course.bucket course.draw.value so_far → IsBeaten old e course.bucket course.draw.value lost
   beaten x = record {

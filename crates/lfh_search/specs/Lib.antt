@@ -6,4 +6,5 @@ pub mod Results
 pub mod Readings
 pub mod Hints
 pub mod Passes
+pub mod Under
 pub mod Laws

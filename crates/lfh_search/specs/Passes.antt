@@ -2,7 +2,7 @@
 use Rattle.std.specs.Prelude.{◌≡◌, ℕ, ◌+◌, ◌<◌, nat_lt, true, false, List, [], None}
 use Rattle.heap_model.specs.declared.Act.{Act}
 use Rattle.heap_model.specs.declared.What.TheVariants as whats
-use Rattle.heap_model.specs.State.{Span, holds}
+use Rattle.heap_model.specs.State.{Area, Span, holds}
 use Rattle.heap_model.specs.CallState.{Search, Stage, AtHint, SecondPass}
 use Rattle.heap_model.specs.Search.{has_not_begun, is_read, spans_of}
 use Rattle.heap_soundness.specs.Sound.{IsOneOf}
@@ -56,7 +56,18 @@ pub record HasPassed (old new : Token) (back : Kept) (course : Course) (lost now
   pub passing : IsPassing new back course search from now_lost
   pub all : (x : Span) → IsOneOf x (spans_of (area_of back) course.bucket (own_slot new)) → x.first < from
 
+-- a subsegment of the bucket and the slot begins there
+pub record IsThere (a : Area) (b t head : ℕ) : Type 0 where
+  pub span : Span
+  pub there : IsOneOf span (spans_of a b t)
+  pub begins : span.first ≡ head
+
+-- a block of one of them was claimed
+pub record HasPassedTo (old new : Token) (back : Kept) (b head i : ℕ) : Type 0 where
+  pub placed : HasPlaced old new b head i
+  pub there : IsThere (area_of back) b (own_slot old) head
+
 abbrev pub PassRead : Token → Token → Kept → Course → ℕ → Pass → Type 0
-PassRead old new back course lost (Claimed head index) = HasPlaced old new course.bucket head index
+PassRead old new back course lost (Claimed head index) = HasPassedTo old new back course.bucket head index
 PassRead old new back course lost (Dry now_lost) = HasPassed old new back course lost now_lost
 PassRead old new back course lost Beaten = IsBeaten old new course.bucket course.draw.value lost

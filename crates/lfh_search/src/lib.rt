@@ -10,7 +10,9 @@ mod hint;
 pub mod laws;
 mod pass;
 mod reading;
+mod under;
 
 pub use course::Course;
 pub use hint::{First, Found, search_hint};
 pub use pass::{Pass, read_all};
+pub use under::{Under, search_again, search_under_back};
