@@ -36,7 +36,7 @@ use Rattle.vs_calls.specs.Blocks.{IsForVs, HasVsAndBack}
 ---- By the configuration
 
 -- the layer serves such a size
-vs_route : (n : ℕ) → n ≤ 131072 → (is_small (route_of n) || is_variable (route_of n)) ≡ true
+pub vs_route : (n : ℕ) → n ≤ 131072 → (is_small (route_of n) || is_variable (route_of n)) ≡ true
 vs_route n h = let b = le-leb n 131072 h in elim (cases_Bool (leb n 16368)) [ inl e ↦ rw e refl | inr e ↦ rw (e, b) refl ]
 
 module _ (s : Setting) (m : Configuration) (c n : ℕ) (flags : Flags) (w : IsWithin m c (calls.Alloc n flags)) (size : n ≤ 131072) (held : holds m.state.gate c whats.Vs ≡ true)

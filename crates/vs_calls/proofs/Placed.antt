@@ -62,5 +62,6 @@ module _ (c : Token) (vs later : VsKept) (n addr granules : ℕ) (tells : Always
     place = x.place;
     at = x.address;
     prepared = e ∙ (λ i. with_prepared c (acts.Place (start_is i) (granules_are i) layers.Vs));
+    there = placed_here c vs later n addr tells x;
     becomes = becomes x.run x.place;
   }

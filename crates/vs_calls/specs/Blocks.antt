@@ -1,21 +1,23 @@
 -- Blocks of the variable-size layer, as a call finds and places them.
-use Rattle.std.specs.Prelude.{◌≡◌, ℕ, ◌+◌, ◌*◌, true, false, [], ◌∷◌, Option, Some, option_and_then}
+use Rattle.std.specs.Prelude.{◌≡◌, ℕ, ◌+◌, ◌*◌, ◌/◌, ◌≤◌, true, false, [], ◌∷◌, Option, Some, option_and_then}
 use Rattle.heap_model.specs.declared.Act.TheVariants as acts
 use Rattle.heap_model.specs.declared.Call.{Call}
 use Rattle.heap_model.specs.declared.Layer.TheVariants as layers
 use Rattle.heap_model.specs.declared.What.TheVariants as whats
+use Rattle.heap_model.specs.declared.Limits.{Limits}
 use Rattle.heap_model.specs.Buckets.{bucket_of}
+use Rattle.heap_model.specs.Geometry.{words_of}
 use Rattle.heap_model.specs.Legal.{leaves_whole, goes_to_lfh}
 use Rattle.heap_model.specs.Stay.{for_some}
 use Rattle.heap_model.specs.Runs.{Run}
 use Rattle.heap_model.specs.State.{State, live_size}
 use Rattle.heap_model.specs.Layers.{StandsForVs, StandsForBack}
-use Rattle.claim_rule.specs.Places.{vs_slot, back_slot}
+use Rattle.claim_rule.specs.Places.{vs_slot, back_slot, data_count}
 use Rattle.backend_fit.specs.Kept.{Kept}
 use Rattle.backend_fit.specs.Kept as backs
 use Rattle.heap_gate.specs.Calls.{with_prepared, rested}
 use Rattle.heap_gate.specs.Token.{Token, Always, now, is_out}
-use Rattle.vs_layer.specs.Kept.{VsKept, block_at, place_for}
+use Rattle.vs_layer.specs.Kept.{VsKept, block_at, block_in, place_for}
 use Rattle.vs_layer.specs.Standing.{layer_of, Becomes, with_block, without_block}
 use Rattle.call_parts.specs.Calls.{HoldsVs}
 use Rattle.call_parts.specs.Entries.{with_all}
@@ -51,6 +53,10 @@ pub record HasVsAndBack (c : Token) (vs : VsKept) (back : Kept) : Type 0 where
 abbrev pub size_at : VsKept → ℕ → Option ℕ
 size_at vs addr = option_and_then (λ p. live_size p.status) (block_at vs addr)
 
+-- the words of a block lie among the data words
+abbrev pub LiesWithin : Limits → ℕ → ℕ → Type 0
+LiesWithin l addr size = addr / 8 + words_of size ≤ data_count l
+
 -- sizes in the bucket of n, where n has one, do not go to the front end
 abbrev pub IsForVs : Token → ℕ → Type 0
 IsForVs c n = Always c (λ s. for_some (bucket_of n) (goes_to_lfh (now s c).state.vs) ≡ false)
@@ -62,6 +68,7 @@ pub record HasHeld (old new : Token) (vs later : VsKept) (n addr : ℕ) : Type 0
   pub place : place_for vs n ≡ Some run
   pub at : addr ≡ 16 * run.first + 16
   pub prepared : new ≡ with_prepared old (acts.Place (16 * run.first) run.count layers.Vs)
+  pub there : block_at later addr ≡ Some (block_in run n)
   pub becomes : Becomes vs later (λ v. with_block v run n) (λ xs. xs)
 
 -- the block at an address is gone, and the back end is as it was

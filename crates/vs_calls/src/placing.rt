@@ -20,7 +20,7 @@ use heap_model::{Act, GRANULE_BYTES, Layer};
 use vs_layer::Vs;
 
 /// The granules of the place of the block at an address, its header included.
-fn granules_at(vs: &Vs, addr: u64) -> u64
+pub(crate) fn granules_at(vs: &Vs, addr: u64) -> u64
     requires { (p : Place) × (block_at vs.now addr ≡ Some p) }
     ensures { (p : Place) → block_at vs.now addr ≡ Some p → result ≡ p.granules }
 {
