@@ -37,3 +37,9 @@ give_both-requires-clause-tells_back c =
     let k = c.args.c.now in let x = c.requires.both in let act = acts.Sized c.args.addr c.size_of-size.result in
     subst (λ (t : Token). Always t (λ s. StandsForBack t.opening (now s t).state (backs.layer_of c.args.back))) (sym c.prepare.ensures)
     (λ s q. subst (λ (m : Configuration). StandsForBack k.opening m.state (backs.layer_of c.args.back)) (sym (now_more s k act)) (x.holds.tells_back s q))
+
+pub give_both-requires-clause-used : goal.give_both-requires-clause-used
+give_both-requires-clause-used c =
+    let k = c.args.c.now in let x = c.requires.both in let act = acts.Sized c.args.addr c.size_of-size.result in
+    subst (λ (t : Token). Always t (λ s. leaves_whole (now s t).state whats.Vs ≡ true)) (sym c.prepare.ensures)
+    (λ s q. subst (λ (m : Configuration). leaves_whole m.state whats.Vs ≡ true) (sym (now_more s k act)) (x.used s q))
