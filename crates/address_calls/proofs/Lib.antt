@@ -1,0 +1,6 @@
+mod Behind
+mod States
+mod Hearing
+mod Words
+mod Parts
+mod Dropped

@@ -1,0 +1,3 @@
+pub mod Finds
+pub mod Answers
+pub mod Slots

@@ -1,0 +1,68 @@
+//! The block that begins at an address, given back.
+ghost use Rattle.std.specs.Prelude.{◌≡◌, [], IfOk, IfErr};
+ghost use Rattle.heap_model.specs.declared.Call.{Call as ACall};
+ghost use Rattle.call_parts.specs.Calls.{IsServing};
+ghost use Rattle.paged_calls.specs.Parts.{Drops};
+ghost use Rattle.address_calls.specs.Answers.{MeetsOn};
+ghost use Rattle.address_calls.specs.Finds.{IsFound, IsOfVs};
+
+use crate::blocks::say_none;
+use crate::look::{Found, look_up};
+use call_parts::State;
+use front_calls::drop_front;
+use heap_gate::{Caller, Heap};
+use heap_model::Busy;
+use paged_calls::{drop_back, drop_huge};
+use vs_calls::drop_vs;
+use vs_layer::Vs;
+
+/// Takes the live block that begins at an address and gives its place back, or answers `false` where no live block has it. It may be
+/// asked of each address. Each lock is given back. Where another caller holds a lock that this needs, the block stays.
+pub fn drop_block(heap: &Heap<State>, c: &mut Caller<State>, addr: u64) -> Result<bool, Busy>
+    requires table { (c.old.table ≡ heap.now.table) × (c.old.opening ≡ heap.now.opening) }
+    requires serving { (call : ACall) × IsServing c.old call [] }
+    ensures dropped { IfOk result (λ did. Drops c.old c.new addr did) }
+    ensures busy { IfErr result (λ b. MeetsOn c.old c.new addr b) }
+{
+    match look_up(heap, c, addr) {
+        Ok(found) => drop_found(heap, c, found, addr),
+        Err(busy) => Err(busy),
+    }
+}
+
+/// Gives the block back where it was found.
+fn drop_found(
+    heap: &Heap<State>,
+    c: &mut Caller<State>,
+    found: Found,
+    addr: u64,
+) -> Result<bool, Busy>
+    requires table { (c.old.table ≡ heap.now.table) × (c.old.opening ≡ heap.now.opening) }
+    requires found { IsFound c.old addr found }
+    ensures dropped { IfOk result (λ did. Drops c.old c.new addr did) }
+    ensures busy { IfErr result (λ b. MeetsOn c.old c.new addr b) }
+{
+    match found {
+        Found::Front(tag) => Ok(drop_front(heap, c, tag, addr)),
+        Found::Vs(vs) => drop_of_vs(heap, c, vs, addr),
+        Found::Back(vs, back) => Ok(drop_back(heap, c, vs, back, addr)),
+        Found::Large(large) => Ok(drop_huge(heap, c, large, addr)),
+        Found::Nowhere => {
+            say_none(heap, c, addr);
+            Ok(false)
+        }
+    }
+}
+
+/// Gives a block of the variable-size layer back, or leaves it where its span would go with it and another caller has the back end.
+fn drop_of_vs(heap: &Heap<State>, c: &mut Caller<State>, vs: Vs, addr: u64) -> Result<bool, Busy>
+    requires table { c.old.table ≡ heap.now.table }
+    requires vs { IsOfVs c.old addr vs }
+    ensures dropped { IfOk result (λ did. Drops c.old c.new addr did) }
+    ensures busy { IfErr result (λ b. MeetsOn c.old c.new addr b) }
+{
+    match drop_vs(heap, c, vs, addr) {
+        Ok(()) => Ok(true),
+        Err(busy) => Err(busy),
+    }
+}
