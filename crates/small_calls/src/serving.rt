@@ -1,0 +1,97 @@
+//! Allocations of at most 131,072 bytes, but for what the variable-size layer's lock leaves to do with that of the back end.
+ghost use Rattle.std.specs.Prelude.{◌≡◌, ◌≤◌, Some};
+ghost use Rattle.heap_model.specs.Buckets.{bucket_of};
+ghost use Rattle.heap_gate.specs.Token.{Token};
+ghost use Rattle.paged_calls.specs.Parts.{IsAllocating};
+ghost use Rattle.small_calls.specs.Ways.{IsSpent, IsSpentUnderVs};
+ghost use Rattle.small_calls.specs.Served.{ServesSmall};
+
+use crate::by_vs::SmallTry;
+use crate::no_room::{BehindNoSpan, go_on};
+use crate::small::try_small;
+use crate::with_both::go_on_with_vs;
+use backend_fit::Back;
+use call_parts::State;
+use heap_gate::{Caller, Heap};
+use heap_model::AllocNo;
+use random_pick::Draw;
+use vs_layer::Vs;
+
+/// What an allocation comes to, with two ways that go on under both locks.
+#[derive(Drop)]
+pub enum SmallCall {
+    /// The block at this address is given. No lock is held.
+    Placed { addr: u64 },
+    /// There is no block, or another caller has a lock. None is held.
+    Refused(AllocNo),
+    /// The front end cannot serve the size, and the variable-size layer does. Both locks are held, that of the layer taken last.
+    ForVs { vs: Vs, back: Back },
+    /// As ForVs, where the lock of the layer was taken first.
+    ForVsFirst { vs: Vs, back: Back },
+}
+
+/// Goes on with an allocation whose first pass of the front end is spent, by its draw; so many claims were lost.
+fn serve_spent(
+    heap: &Heap<State>,
+    c: &mut Caller<State>,
+    bucket: u8,
+    n: u64,
+    zero: bool,
+    lost: u32,
+    draw: Draw,
+) -> SmallCall
+    requires table { (c.old.table ≡ heap.now.table) × (c.old.opening ≡ heap.now.opening) }
+    requires bucket { bucket_of n ≡ Some bucket }
+    requires spent { (first : Token) × IsSpent first c.old n zero bucket draw.value lost }
+    ensures { (first : Token) → IsSpent first c.old n zero bucket draw.value lost → ServesSmall first c.new n zero result }
+{
+    match go_on(heap, c, bucket, n, zero, lost, draw) {
+        BehindNoSpan::Busy(busy) => SmallCall::Refused(AllocNo::Busy(busy)),
+        BehindNoSpan::Placed { addr } => SmallCall::Placed { addr },
+        BehindNoSpan::ForVs { vs, back } => SmallCall::ForVs { vs, back },
+    }
+}
+
+/// As [`serve_spent`], with the lock of the variable-size layer held.
+fn serve_spent_with_vs(
+    heap: &Heap<State>,
+    c: &mut Caller<State>,
+    vs: Vs,
+    bucket: u8,
+    n: u64,
+    zero: bool,
+    lost: u32,
+    draw: Draw,
+) -> SmallCall
+    requires table { (c.old.table ≡ heap.now.table) × (c.old.opening ≡ heap.now.opening) }
+    requires bucket { bucket_of n ≡ Some bucket }
+    requires spent { (first : Token) × IsSpentUnderVs first c.old n zero bucket draw.value lost vs }
+    ensures { (first : Token) → IsSpentUnderVs first c.old n zero bucket draw.value lost vs → ServesSmall first c.new n zero result }
+{
+    match go_on_with_vs(heap, c, vs, bucket, n, zero, lost, draw) {
+        BehindNoSpan::Busy(busy) => SmallCall::Refused(AllocNo::Busy(busy)),
+        BehindNoSpan::Placed { addr } => SmallCall::Placed { addr },
+        BehindNoSpan::ForVs { vs, back } => SmallCall::ForVsFirst { vs, back },
+    }
+}
+
+/// Allocates `n` bytes, at most 131,072, zeroed if that is asked. The front end serves a size whose bucket is active, and the
+/// variable-size layer any other. No lock is waited for: each is tried once.
+pub fn serve_small(heap: &Heap<State>, c: &mut Caller<State>, n: u64, zero: bool) -> SmallCall
+    requires size { n ≤ 131072 }
+    requires table { (c.old.table ≡ heap.now.table) × (c.old.opening ≡ heap.now.opening) }
+    requires allocating { IsAllocating c.old n zero }
+    ensures { ServesSmall c.old c.new n zero result }
+{
+    match try_small(heap, c, n, zero) {
+        SmallTry::Placed { addr } => SmallCall::Placed { addr },
+        SmallTry::Refused(no) => SmallCall::Refused(no),
+        SmallTry::Spent { bucket, lost, draw } => serve_spent(heap, c, bucket, n, zero, lost, draw),
+        SmallTry::SpentUnderVs {
+            vs,
+            bucket,
+            lost,
+            draw,
+        } => serve_spent_with_vs(heap, c, vs, bucket, n, zero, lost, draw),
+    }
+}
