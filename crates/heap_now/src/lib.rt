@@ -5,11 +5,18 @@
 //! call ends, and answers `Busy`.
 #![tactic(auto)]
 
+mod address;
+mod alloc;
+mod frame;
+mod locks;
 mod open;
 #[cfg(test)]
 mod tests;
+mod words;
 
+pub use address::{free_now, get_now, put_now, size_now};
 pub use call_parts::State;
+pub use locks::{lock_now, unlock_now};
 pub use open::open_heap;
 
 /// A heap that threads share.
