@@ -23,7 +23,7 @@ use Rattle.heap_model.specs.Legal.{may_follow, after, meets_demand, may_touch, s
 use Rattle.heap_model.specs.History.{configuration_after}
 use Rattle.heap_model.specs.Agreement.{AgreesFor}
 use Rattle.claim_rule.specs.Entries.{IsSettingOf, entry, is_of_lfh, may_prepare}
-use Rattle.heap_gate.specs.Token.{Token, Always, now, IsStanding}
+use Rattle.heap_gate.specs.Token.{Token, Always, now, IsStanding, is_out}
 use Rattle.heap_gate.specs.Calls.{with_prepared, rested, HasRested, Runs, Stands, stance}
 use Rattle.data_words.specs.Clears.{clears, IsCleared}
 use Rattle.call_parts.proofs.Joining.{setting_before}
@@ -208,6 +208,9 @@ module _ (s : Setting) (m : Configuration) (c : ℕ) (l : Layer) (start granules
     spans = λ e. ap (λ (st : State). vs_spans st.back.area) state_is ∙ ap vs_spans (area_given m.state l (give_in c (address p) n));
   }
 
+  pub back_beside : l ≡ layers.Vs → (after s m (entry c give)).state.back ≡ m.state.back
+  back_beside vs = ap (λ (st : State). st.back) state_is ∙ ap (λ (k : Layer). (with_places m.state (Some k) (give_in c (address p) n)).back) vs
+
 ---- The token
 
 module _ (a b : Token) (l : Layer) (start granules addr n word count : ℕ) (zero_it : Bool) (h : HasNew a (new_place a.number l start granules) addr n) (z : HasZeroed a b word count zero_it) (st : IsStanding b) where
@@ -269,6 +272,15 @@ module _ (a b : Token) (l : Layer) (start granules addr n word count : ℕ) (zer
         spans = λ e. ap (λ (k : Configuration). vs_spans k.state.back.area) (after_is s) ∙ (y.spans e ∙ kept.spans (touch_vs m a.number l e touch));
       }
 
+  -- what the lock of the back end guards is left alone by a block of VS
+  back_kept : l ≡ layers.Vs → is_out whats.Back a.out ≡ true → Always given_token (λ s. (now s given_token).state.back ≡ (now s a).state.back)
+  back_kept vs out s q =
+      let kept = z.kept s q in
+      let held_b : holds (now s b).state.gate a.number whats.Back ≡ true =
+      subst (λ (x : ℕ). holds (now s b).state.gate x whats.Back ≡ true) number ((st s q).locks whats.Back ∙ (ap (is_out whats.Back) z.out_is ∙ out)) in
+      ap (λ (k : Configuration). k.state.back) (after_is s)
+      ∙ (back_beside s (now s b) a.number l start granules n h.behind (entered_now s q) (begun_now s q) ((st s q).demand z.whole) (hand_now s q) (open_now s q) h.suits_it vs ∙ kept.back (sym (kept.locks whats.Back) ∙ held_b))
+
   pub handed_over : word ≡ addr / 8 → count ≡ words_of n → HasHandedOver a (rested given_token) tp n zero_it
   handed_over ew ec =
       let given = added_then a b given_token (zeros zero_it word count) (tgive ∷ []) z.added (added_one b tgive refl) in
@@ -281,4 +293,5 @@ module _ (a b : Token) (l : Layer) (start granules addr n word count : ℕ) (zer
         whole = refl;
         free = refl;
         given = λ s q. given_now s q;
+        kept_back = λ vs out s q. back_kept vs out s q;
       }

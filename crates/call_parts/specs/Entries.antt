@@ -4,12 +4,13 @@ use Rattle.heap_model.specs.declared.Act.{Act}
 use Rattle.heap_model.specs.declared.Act.TheVariants as acts
 use Rattle.heap_model.specs.declared.Layer.{Layer}
 use Rattle.heap_model.specs.declared.Layer.TheVariants as layers
+use Rattle.heap_model.specs.declared.What.TheVariants as whats
 use Rattle.heap_model.specs.Shape.{zeroing}
 use Rattle.heap_model.specs.State.{Place, Live, InHand, in_hand, places_of, is_layer, address}
 use Rattle.heap_model.specs.Ranges.{vs_spans}
 use Rattle.heap_model.specs.CallState.{Configuration, caller_view}
 use Rattle.heap_model.specs.Legal.{may_touch, suits, with_status}
-use Rattle.heap_gate.specs.Token.{Token, Always, now}
+use Rattle.heap_gate.specs.Token.{Token, Always, now, is_out}
 use Rattle.heap_gate.specs.Calls.{with_prepared}
 use Rattle.call_laws.specs.Spans.{back_acts}
 use Rattle.call_parts.specs.Calls.{GoesOn}
@@ -79,10 +80,11 @@ pub record IsGiven (p : Place) (n : ℕ) (m k : Configuration) : Type 0 where
   pub vs : (ps : List Place) → p.layer ≡ layers.Vs → m.state.vs.places ≡ p ∷ ps → k.state.vs ≡ record { places = with_status (Live n) p ∷ ps; active = m.state.vs.active; served = m.state.vs.served }
   pub spans : p.layer ≡ layers.Vs → vs_spans k.state.back.area ≡ vs_spans m.state.back.area
 
--- The block in hand was zeroed, where that was asked, and given.
+-- The block in hand was zeroed, where that was asked, and given. Beside one of VS the back end is as it was, where its lock is held.
 pub record HasHandedOver (old new : Token) (p : Place) (n : ℕ) (zero : Bool) : Type 0 where
   pub added : HasAdded old new (zeroing zero (address p) n ++ acts.Give (address p) n ∷ [])
   pub out_is : new.out ≡ old.out
   pub whole : new.whole ≡ true
   pub free : new.free ≡ true
   pub given : Always new (λ s. IsGiven p n (now s old) (now s new))
+  pub kept_back : p.layer ≡ layers.Vs → is_out whats.Back old.out ≡ true → Always new (λ s. (now s new).state.back ≡ (now s old).state.back)

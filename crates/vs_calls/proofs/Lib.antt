@@ -1,24 +1,24 @@
 mod Held
 mod Placed
 mod TakenOut
-mod Refused
-mod Asked
+pub mod Refused
+pub mod Asked
 mod Within
 mod BothGiven
 mod SpansUsed
 mod SpanKept
-mod InHand
-mod Gap
-mod Shapes
+pub mod InHand
+pub mod Gap
+pub mod Shapes
 mod GapPlaced
-mod TakenBack
+pub mod TakenBack
 mod Area
 mod Ending
 mod Closing
 mod NewGap
 mod NewPages
 mod NewHeld
-mod SpanMay
-mod NewPlaced
+pub mod SpanMay
+pub mod NewPlaced
 mod NewGiven
 mod SpanActs

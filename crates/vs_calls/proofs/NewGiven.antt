@@ -21,6 +21,7 @@ use Rattle.call_parts.specs.Entries.{HasAdded, HasNew, HasHandedOver}
 use Rattle.call_parts.proofs.Serving.{none_begins-append, shape-append}
 use Rattle.call_parts.proofs.Tokens.{added_then, ended_given, ended_then}
 use Rattle.vs_calls.specs.Parts.{IsPlacingAnew, HasHeldAnew, HasPlaced, span_acts}
+use Rattle.vs_calls.proofs.SpanMay.{HoldsForSpan, anew_holds}
 use Rattle.vs_calls.proofs.NewPlaced.{spanned, new_here, here_added, here_out, here_limits, behind, step_added, step_out, step_prepared, new_behind, span_no_begin, span_shown}
 use Rattle.vs_calls.proofs.InHand.{HasNewBlock}
 use Rattle.vs_calls.proofs.InHand as hand
@@ -28,29 +29,32 @@ use Rattle.vs_calls.proofs.Shapes.{placed_shows}
 
 module _ (c t b : Token) (vs later : VsKept) (back more : Kept) (n addr : ℕ) (zero_it : Bool) (v : IsPlacingAnew c vs back n zero_it) (st : IsStanding c) (sound : IsSound back) (size : n ≤ 131072) (x : HasHeldAnew c t vs later back more n addr)
     (g : HasGiven t b whats.Back (entry t.number (acts.GiveLock whats.Back) ∷ [])) where
+  abbrev hold : HoldsForSpan c vs back n
+  hold = anew_holds c vs back n zero_it v st sound size
+
   abbrev list : List Act
   list = span_acts back.region.reserved x.first n x.run
 
   abbrev before : Setting → State
-  before s = spanned c t vs later back more n addr zero_it v st sound size x s
+  before s = spanned c t vs later back more n addr hold x s
 
   out : t.out ≡ back_slot ∷ vs_slot ∷ []
-  out = here_out c t vs later back more n addr zero_it v st sound size x
+  out = here_out c t vs later back more n addr hold x ∙ v.holds.serving.out_is
 
   pub nb : HasNewBlock b (behind b before) later n addr x.run
-  nb = new_behind t b before later n addr x.run (new_here c t vs later back more n addr zero_it v st sound size x) g out
+  nb = new_behind t b before later n addr x.run (new_here c t vs later back more n addr hold x) g out
 
   pub step_of : HasAdded t b (acts.GiveLock whats.Back ∷ [])
-  step_of = step_added t b before later n addr x.run (new_here c t vs later back more n addr zero_it v st sound size x) g out
+  step_of = step_added t b before later n addr x.run (new_here c t vs later back more n addr hold x) g out
 
   pub first_added : HasAdded c b (list ++ acts.GiveLock whats.Back ∷ [])
-  first_added = added_then c t b list (acts.GiveLock whats.Back ∷ []) (here_added c t vs later back more n addr zero_it v st sound size x) step_of
+  first_added = added_then c t b list (acts.GiveLock whats.Back ∷ []) (here_added c t vs later back more n addr hold x) step_of
 
   pub first_room : length b.prepared < 16
-  first_room = let e = ap length (step_prepared t b before later n addr x.run (new_here c t vs later back more n addr zero_it v st sound size x) g out) in omega (arith, e)
+  first_room = let e = ap length (step_prepared t b before later n addr x.run (new_here c t vs later back more n addr hold x) g out) in omega (arith, e)
 
   pub first_limits : later.limits ≡ b.opening.limits
-  first_limits = here_limits c t vs later back more n addr zero_it v st sound size x ∙ ap (λ (o : Opening). o.limits) (sym step_of.goes.opening)
+  first_limits = here_limits c t vs later back more n addr hold x ∙ ap (λ (o : Opening). o.limits) (sym step_of.goes.opening)
 
   abbrev pub the_place : Place
   the_place = hand.place b (behind b before) later n addr x.run nb
@@ -72,7 +76,7 @@ module _ (c t b : Token) (vs later : VsKept) (back more : Kept) (n addr : ℕ) (
     all_added = added_then c b d (list ++ acts.GiveLock whats.Back ∷ []) given first_added over_added
 
     pub all_out : d.out ≡ vs_slot ∷ []
-    all_out = over_it.out_is ∙ step_out t b before later n addr x.run (new_here c t vs later back more n addr zero_it v st sound size x) g out
+    all_out = over_it.out_is ∙ step_out t b before later n addr x.run (new_here c t vs later back more n addr hold x) g out
 
     pub all_whole : d.whole ≡ true
     all_whole = over_it.whole

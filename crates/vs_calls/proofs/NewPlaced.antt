@@ -1,5 +1,5 @@
 -- A block of VS in hand in a span that was made for it, before and behind the step that gives the lock of the back end back.
-use Rattle.std.proofs.Common.{◌≡◌, ℕ, ◌*◌, ◌/◌, ◌≤◌, Bool, true, ◌&&◌, List, [], ◌∷◌, ◌++◌, length, refl, sym, ap, subst, ◌∙◌, arith, ltb, inl, inr}
+use Rattle.std.proofs.Common.{◌≡◌, ℕ, ◌+◌, ◌*◌, ◌/◌, ◌≤◌, Bool, true, ◌&&◌, List, [], ◌∷◌, ◌++◌, length, refl, sym, ap, subst, ◌∙◌, arith, ltb, inl, inr}
 use Rattle.std.specs.Prelude.{is_some}
 use Rattle.std.specs.List.{list_all}
 use Rattle.std.proofs.lemmas.Bool.{cases_Bool, and_from, and_parts, or_left}
@@ -28,19 +28,18 @@ use Rattle.serial_laws.proofs.VsAllocate.{count_is}
 use Rattle.backend_fit.specs.Effects.{with_segment, marked_run, part_with}
 use Rattle.backend_fit.specs.Kept.{Kept}
 use Rattle.backend_fit.specs.Kept as backs
-use Rattle.backend_fit.specs.Sound.{IsSound}
 use Rattle.backend_fit.proofs.Told.{spans_used}
 use Rattle.vs_layer.specs.Kept.{VsKept, vs_span, block_in}
 use Rattle.vs_layer.specs.Kept as vss
 use Rattle.vs_layer.specs.Standing.{layer_of, with_block}
-use Rattle.heap_gate.specs.Token.{Token, Always, now, IsStanding, is_out}
+use Rattle.heap_gate.specs.Token.{Token, Always, now}
 use Rattle.heap_gate.specs.Calls.{HasGiven, with_prepared}
 use Rattle.call_parts.specs.Entries.{with_all, HasAdded}
 use Rattle.call_parts.proofs.Joining.{setting_before, goes_does}
 use Rattle.call_parts.proofs.Serving.{none_begins}
-use Rattle.call_parts.proofs.Tokens.{now_all, added_all, setting_before_all}
-use Rattle.vs_calls.specs.Parts.{IsPlacingAnew, HasHeldAnew, span_acts}
-use Rattle.vs_calls.proofs.SpanMay.{spans_with, order_now, none_now, fits_now, leads_now}
+use Rattle.call_parts.proofs.Tokens.{now_all, added_all, length_all, setting_before_all}
+use Rattle.vs_calls.specs.Parts.{HasHeldAnew, span_acts}
+use Rattle.vs_calls.proofs.SpanMay.{HoldsForSpan, spans_with, order_now, none_now, fits_now}
 use Rattle.vs_calls.proofs.InHand.{with_hand, used_more, HasNewBlock}
 
 ---- Lists
@@ -72,7 +71,7 @@ out_all c (act ∷ rest) = out_all (with_prepared c act) rest
 
 ---- Under both locks
 
-module _ (c t : Token) (vs later : VsKept) (back more : Kept) (n addr : ℕ) (zero_it : Bool) (v : IsPlacingAnew c vs back n zero_it) (st : IsStanding c) (sound : IsSound back) (size : n ≤ 131072) (x : HasHeldAnew c t vs later back more n addr) where
+module _ (c t : Token) (vs later : VsKept) (back more : Kept) (n addr : ℕ) (v : HoldsForSpan c vs back n) (x : HasHeldAnew c t vs later back more n addr) where
   abbrev list : List Act
   list = span_acts back.region.reserved x.first n x.run
 
@@ -90,10 +89,10 @@ module _ (c t : Token) (vs later : VsKept) (back more : Kept) (n addr : ℕ) (ze
   number = new_added.goes.number
 
   state_now : Always c (λ s. (now s t0).state ≡ with_hand (spanned s) c.number n x.run)
-  state_now s q = ap (λ (m : Configuration). m.state) (now_all s c list) ∙ (leads_now c vs back n zero_it v st sound size x.first x.run x.range s q).state
+  state_now s q = ap (λ (m : Configuration). m.state) (now_all s c list) ∙ (v.leads x.first x.run x.range s q).state
 
   spans_more : Always c (λ s. vs_spans (spanned s).back.area ≡ insert_span (vs_span x.first (span_pages_of n)) (vs_spans (now s c).state.back.area))
-  spans_more s q = spans_with (with_segment (now s c).state.back.area x.first) x.first n (order_now c vs back n zero_it v st sound size x.first x.run x.range s q)
+  spans_more s q = spans_with (with_segment (now s c).state.back.area x.first) x.first n (order_now c vs back n x.first x.run v.tells_vs v.tells_back v.sound x.range s q)
 
   used_now : Always c (λ s. list_all (has_place 4096 (block_in x.run n ∷ (now s c).state.vs.places)) (vs_spans (spanned s).back.area) ≡ true)
   used_now s q =
@@ -101,7 +100,7 @@ module _ (c t : Token) (vs later : VsKept) (back more : Kept) (n addr : ℕ) (ze
       let y : Span = vs_span x.first (span_pages_of n) in
       let p : Place = block_in x.run n in
       let lies : lies_in 4096 y p ≡ true =
-      lies_in_new_span m.back.area.spans m.vs.places x.first n x.run (none_now c vs back n zero_it v st sound size x.first x.run x.range s q) (fits_now c vs back n zero_it v st sound size x.first x.run x.range s q) in
+      lies_in_new_span m.back.area.spans m.vs.places x.first n x.run (none_now c vs back n x.first x.run v.tells_vs v.tells_back v.sound x.range s q) (fits_now c vs back n x.first x.run v.tells_vs v.tells_back v.sound x.range s q) in
       ap (list_all (has_place 4096 (p ∷ m.vs.places))) (spans_more s q)
       ∙ all_inserted (has_place 4096 (p ∷ m.vs.places)) y (vs_spans m.back.area) (or_left (lies_in 4096 y p) (has_place 4096 m.vs.places y) lies) (used_more p m.vs.places (vs_spans m.back.area) (v.used s q))
 
@@ -111,18 +110,18 @@ module _ (c t : Token) (vs later : VsKept) (back more : Kept) (n addr : ℕ) (ze
   new0 : HasNewBlock t0 spanned later n addr x.run
   new0 = record {
     at = x.at;
-    size = size;
+    size = v.size;
     count = count_is (gaps_of (insert_span (vs_span x.first (span_pages_of n)) vs.spans) (vss.places_of vs)) (units_of n) x.run x.range.fits;
-    inside = new_added.steady.inside ∙ v.holds.serving.inside;
+    inside = new_added.steady.inside ∙ v.inside;
     whole = span_whole c back.region.reserved x.first n x.run;
-    begun = ap is_some (new_added.steady.call ∙ v.holds.serving.call_is);
+    begun = ap is_some new_added.steady.call ∙ v.begun;
     state = λ s q. subst (λ (k : ℕ). (now s t0).state ≡ with_hand (spanned s) k n x.run) (sym number) (state_now s (before0 s q));
-    none = λ s q. subst (λ (k : ℕ). hands (spanned s) k ≡ []) (sym number) ((st s (before0 s q)).hands v.holds.serving.free);
-    held = λ s q. subst (λ (k : ℕ). holds (now s c).state.gate k whats.Vs ≡ true) (sym number) ((st s (before0 s q)).locks whats.Vs ∙ ap (is_out whats.Vs) v.holds.serving.out_is);
+    none = λ s q. subst (λ (k : ℕ). hands (spanned s) k ≡ []) (sym number) ((v.stands s (before0 s q)).hands v.free);
+    held = λ s q. subst (λ (k : ℕ). holds (now s c).state.gate k whats.Vs ≡ true) (sym number) ((v.stands s (before0 s q)).locks whats.Vs ∙ v.held);
     tells = λ s q k e f.
         let qc = before0 s q in
         subst (λ (o : Opening). StandsForVs o k (layer_of later)) (sym new_added.goes.opening)
-        (x.becomes c.opening (now s c).state k (v.holds.tells_vs s qc) e (f ∙ spans_more s qc));
+        (x.becomes c.opening (now s c).state k (v.tells_vs s qc) e (f ∙ spans_more s qc));
     used = λ s q. used_now s (before0 s q);
   }
 
@@ -132,8 +131,15 @@ module _ (c t : Token) (vs later : VsKept) (back more : Kept) (n addr : ℕ) (ze
   pub here_added : HasAdded c t list
   here_added = subst (λ (k : Token). HasAdded c k list) (sym x.prepared) new_added
 
-  pub here_out : t.out ≡ back_slot ∷ vs_slot ∷ []
-  here_out = ap (λ (k : Token). k.out) x.prepared ∙ (out_all c list ∙ v.holds.serving.out_is)
+  pub here_out : t.out ≡ c.out
+  here_out = ap (λ (k : Token). k.out) x.prepared ∙ out_all c list
+
+  pub here_few : length t.prepared ≤ length c.prepared + 3
+  here_few =
+      let e = ap (λ (k : Token). length k.prepared) x.prepared in
+      let all = length_all c list in
+      let few = span_few back.region.reserved x.first n x.run in
+      omega (arith, e, all, few)
 
   pub here_before : (s : Setting) → IsSettingOf t.opening t.roll s → IsSettingOf c.opening c.roll s
   here_before s q = setting_before c t list here_added.goes s q
@@ -144,14 +150,14 @@ module _ (c t : Token) (vs later : VsKept) (back more : Kept) (n addr : ℕ) (ze
       let qc = here_before s q in
       let m = (now s c).state in
       let is : (now s t).state.back ≡ part_with m.back (marked_run x.first (span_pages_of n) vs_mark) = ap (λ (y : State). y.back) (new_here.state s q) in
-      let told = subst (λ (o : Opening). StandsForBack o (now s t).state (backs.layer_of more)) (sym here_added.goes.opening) (x.becomes_back c.opening m (now s t).state (v.holds.tells_back s qc) is) in
+      let told = subst (λ (o : Opening). StandsForBack o (now s t).state (backs.layer_of more)) (sym here_added.goes.opening) (x.becomes_back c.opening m (now s t).state (v.tells_back s qc) is) in
       (spans_used t.opening (now s t).state more told, told)
 
   pub here_limits : later.limits ≡ t.opening.limits
   here_limits =
       let s = setting_of c.opening c.roll in let q = some_setting c.opening c.roll in
       let sp = spanned s in
-      (x.becomes c.opening (now s c).state (record sp { vs = with_block (now s c).state.vs x.run n }) (v.holds.tells_vs s q) refl (spans_more s q)).limits ∙ ap (λ (o : Opening). o.limits) (sym here_added.goes.opening)
+      (x.becomes c.opening (now s c).state (record sp { vs = with_block (now s c).state.vs x.run n }) (v.tells_vs s q) refl (spans_more s q)).limits ∙ ap (λ (o : Opening). o.limits) (sym here_added.goes.opening)
 
 ---- Behind the step
 

@@ -1,6 +1,6 @@
 -- What an allocation may do under the locks of VS and of the back end, where no gap fits: a span is made for the block.
 use Rattle.std.proofs.Common.{◌≡◌, ◌⊎◌, ℕ, ◌+◌, ◌*◌, ◌/◌, ◌<◌, ◌≤◌, Bool, true, false, List, [], ◌∷◌, Some, None, refl, sym, ap, subst, ◌∙◌, arith, ltb, inl, inr}
-use Rattle.std.specs.Prelude.{filter}
+use Rattle.std.specs.Prelude.{filter, is_some}
 use Rattle.std.proofs.lemmas.Bool.{cases_Bool, and_parts, lt-ltb, le-ltb, ltb-true}
 use Rattle.heap_model.specs.declared.Act.{Act}
 use Rattle.heap_model.specs.declared.Act.TheVariants as acts
@@ -16,7 +16,8 @@ use Rattle.heap_model.specs.Buckets.{bucket_of}
 use Rattle.heap_model.specs.CallState.{Configuration, caller_view}
 use Rattle.heap_model.specs.Geometry.{units_of, span_pages_of}
 use Rattle.heap_model.specs.History.{configuration_after, may_all_follow}
-use Rattle.heap_model.specs.Legal.{may_follow, after, with_span, goes_to_lfh}
+use Rattle.heap_model.specs.Layers.{StandsForVs, StandsForBack}
+use Rattle.heap_model.specs.Legal.{may_follow, after, with_span, goes_to_lfh, leaves_whole}
 use Rattle.heap_model.specs.Ranges.{vs_spans, gaps, gaps_of, vs_place, is_of_kind}
 use Rattle.heap_model.specs.Runs.{Run}
 use Rattle.heap_model.specs.State.{Setting, Area, Span, VsPart, by_address, insert_span}
@@ -31,11 +32,13 @@ use Rattle.call_laws.proofs.Spans.{call_behind, placing_in_span, reserving_span}
 use Rattle.search_laws.proofs.Filtered.{filtered_in_order}
 use Rattle.backend_fit.specs.Effects.{with_segment}
 use Rattle.backend_fit.specs.Kept.{Kept, area_of}
+use Rattle.backend_fit.specs.Kept as backs
 use Rattle.backend_fit.specs.Laws.{GoesBehind}
 use Rattle.backend_fit.specs.Sound.{IsSound}
 use Rattle.backend_fit.proofs.Goes.{same_segment, next_one}
 use Rattle.backend_fit.proofs.Told.{goes_somewhere}
 use Rattle.vs_layer.specs.Kept.{VsKept, vs_span, places_of}
+use Rattle.vs_layer.specs.Standing as vss
 use Rattle.vs_layer.proofs.ByPlace.{gaps_sorted}
 use Rattle.vs_layer.proofs.Told.{place_is}
 use Rattle.heap_gate.specs.Token.{Token, Always, now, IsStanding, is_out}
@@ -131,37 +134,82 @@ module _ (s : Setting) (m : Configuration) (c n first : ℕ) (r : Run) (flags : 
 
 ---- The token
 
-module _ (c : Token) (vs : VsKept) (back : Kept) (n : ℕ) (zero_it : Bool) (v : IsPlacingAnew c vs back n zero_it) (st : IsStanding c) (sound : IsSound back) (size : n ≤ 131072) (first : ℕ) (r : Run) (g : HasRange vs back n first r) where
+-- what the states of both layers tell of a range
+module _ (c : Token) (vs : VsKept) (back : Kept) (n first : ℕ) (r : Run) (tells_vs : Always c (λ s. StandsForVs c.opening (now s c).state (vss.layer_of vs)))
+    (tells_back : Always c (λ s. StandsForBack c.opening (now s c).state (backs.layer_of back))) (sound : IsSound back) (g : HasRange vs back n first r) where
   places_now : Always c (λ s. by_address (now s c).state.vs.places ≡ places_of vs)
-  places_now s q = ap (λ (p : VsPart). p.places) (sym (v.holds.tells_vs s q).part)
+  places_now s q = ap (λ (p : VsPart). p.places) (sym (tells_vs s q).part)
 
   pub order_now : Always c (λ s. AreInOrder 0 (now s c).state.back.area.spans)
-  order_now s q = spans_in_order c.opening (now s c).state back (v.holds.tells_back s q) sound
+  order_now s q = spans_in_order c.opening (now s c).state back (tells_back s q) sound
 
   pub none_now : Always c (λ s. vs_place (gaps (now s c).state) (units_of n) ≡ None)
-  none_now s q = sym (place_is c.opening (now s c).state vs (v.holds.tells_vs s q) n) ∙ g.no_gap
+  none_now s q = sym (place_is c.opening (now s c).state vs (tells_vs s q) n) ∙ g.no_gap
 
   pub fits_now : Always c (λ s. vs_place (gaps_of (vs_spans (with_span (now s c).state.back.area (vs_span_for first n))) (now s c).state.vs.places) (units_of n) ≡ Some r)
   fits_now s q =
       let m = now s c in
       let xs : List Span = insert_span (vs_span first (span_pages_of n)) vs.spans in
       let spans : vs_spans (with_span m.state.back.area (vs_span_for first n)) ≡ xs =
-      spans_with m.state.back.area first n (order_now s q) ∙ ap (insert_span (vs_span first (span_pages_of n))) (sym (v.holds.tells_vs s q).spans) in
+      spans_with m.state.back.area first n (order_now s q) ∙ ap (insert_span (vs_span first (span_pages_of n))) (sym (tells_vs s q).spans) in
       ap (λ (ys : List Span). vs_place (gaps_of ys m.state.vs.places) (units_of n)) spans ∙ (ap (λ (rs : List Run). vs_place rs (units_of n)) (gaps_sorted xs m.state.vs.places (places_of vs) (places_now s q)) ∙ g.fits)
 
-  pub leads_now : Always c (λ s. SpanLeads s (now s c) c.number (span_acts back.region.reserved first n r) first n r)
-  leads_now s q =
+  area_now : Always c (λ s. area_of back ≡ (now s c).state.back.area)
+  area_now s q = area_is c.opening (now s c).state back (tells_back s q) sound
+
+  pub reserved_now : Always c (λ s. (now s c).state.back.area.reserved ≡ back.region.reserved)
+  reserved_now s q = sym (ap (λ (a : Area). a.reserved) (area_now s q))
+
+  pub pages_now : Always c (λ s. back_place (now s c).state.back.area s.limits.segments (span_pages_of n) ≡ Some first)
+  pages_now s q =
+      let segments : back.limits ≡ s.limits = (tells_back s q).limits ∙ sym q.limits in
+      (λ i. back_place (sym (area_now s q) i) ((sym segments i).segments) (span_pages_of n)) ∙ g.pages
+
+-- The caller is in a call under the lock of VS, with nothing in hand. The states of VS and of the back end tell what is there, each span of VS has a place, and
+-- wherever there is a range for n bytes, its span and its place can be prepared.
+pub record HoldsForSpan (c : Token) (vs : VsKept) (back : Kept) (n : ℕ) : Type 0 where
+  pub stands : IsStanding c
+  pub sound : IsSound back
+  pub size : n ≤ 131072
+  pub begun : is_some c.call ≡ true
+  pub inside : c.inside ≡ true
+  pub free : c.free ≡ true
+  pub held : is_out whats.Vs c.out ≡ true
+  pub used : Always c (λ s. leaves_whole (now s c).state whats.Vs ≡ true)
+  pub tells_vs : Always c (λ s. StandsForVs c.opening (now s c).state (vss.layer_of vs))
+  pub tells_back : Always c (λ s. StandsForBack c.opening (now s c).state (backs.layer_of back))
+  pub leads : (first : ℕ) (r : Run) → HasRange vs back n first r → Always c (λ s. SpanLeads s (now s c) c.number (span_acts back.region.reserved first n r) first n r)
+
+pub span_may : (c : Token) (vs : VsKept) (back : Kept) (n : ℕ) → HoldsForSpan c vs back n → (first : ℕ) (r : Run) → HasRange vs back n first r
+    → Always c (λ s. are_prepared s (now s c) c.number (by_all c.number (span_acts back.region.reserved first n r)) ≡ true)
+span_may c vs back n h first r g s q = (h.leads first r g s q).may
+
+---- Of a size that the layer itself serves
+
+module _ (c : Token) (vs : VsKept) (back : Kept) (n : ℕ) (zero_it : Bool) (v : IsPlacingAnew c vs back n zero_it) (st : IsStanding c) (sound : IsSound back) (size : n ≤ 131072) where
+  anew_leads : (first : ℕ) (r : Run) → HasRange vs back n first r → Always c (λ s. SpanLeads s (now s c) c.number (span_acts back.region.reserved first n r) first n r)
+  anew_leads first r g s q =
       let m = now s c in
       let h = v.holds in
-      let tb = h.tells_back s q in
-      let area : area_of back ≡ m.state.back.area = area_is c.opening m.state back tb sound in
-      let segments : back.limits ≡ s.limits = tb.limits ∙ sym q.limits in
-      let goes : back_place m.state.back.area s.limits.segments (span_pages_of n) ≡ Some first = (λ i. back_place (sym area i) ((sym segments i).segments) (span_pages_of n)) ∙ g.pages in
-      let somewhere = goes_somewhere c.opening m.state back tb sound (span_pages_of n) first (subst (λ (l : Limits). back_place m.state.back.area l.segments (span_pages_of n) ≡ Some first) q.limits goes) in
+      let goes = pages_now c vs back n first r h.tells_vs h.tells_back sound g s q in
+      let somewhere = goes_somewhere c.opening m.state back (h.tells_back s q) sound (span_pages_of n) first (subst (λ (l : Limits). back_place m.state.back.area l.segments (span_pages_of n) ≡ Some first) q.limits goes) in
       let somewhere' = subst (λ (l : Limits). (first / 256 < m.state.back.area.reserved) ⊎ GoesBehind m.state.back.area l.segments (span_pages_of n) first) (sym q.limits) somewhere in
-      subst (λ (k : ℕ). SpanLeads s m c.number (span_acts k first n r) first n r) (sym (ap (λ (a : Area). a.reserved) area))
+      subst (λ (k : ℕ). SpanLeads s m c.number (span_acts k first n r) first n r) (reserved_now c vs back n first r h.tells_vs h.tells_back sound g s q)
       (span_leads s m c.number n first r v.flags (within c (calls.Alloc n v.flags) st h.serving.inside h.serving.call_is h.serving.whole s q)
-      ((st s q).locks whats.Vs ∙ ap (is_out whats.Vs) h.serving.out_is) ((st s q).locks whats.Back ∙ ap (is_out whats.Back) h.serving.out_is) size (v.bucket s q) (none_now s q) (fits_now s q) goes somewhere')
+      ((st s q).locks whats.Vs ∙ ap (is_out whats.Vs) h.serving.out_is) ((st s q).locks whats.Back ∙ ap (is_out whats.Back) h.serving.out_is) size (v.bucket s q)
+      (none_now c vs back n first r h.tells_vs h.tells_back sound g s q) (fits_now c vs back n first r h.tells_vs h.tells_back sound g s q) goes somewhere')
 
-  pub anew_may : Always c (λ s. are_prepared s (now s c) c.number (by_all c.number (span_acts back.region.reserved first n r)) ≡ true)
-  anew_may s q = (leads_now s q).may
+  pub anew_holds : HoldsForSpan c vs back n
+  anew_holds = record {
+    stands = st;
+    sound = sound;
+    size = size;
+    begun = ap is_some v.holds.serving.call_is;
+    inside = v.holds.serving.inside;
+    free = v.holds.serving.free;
+    held = ap (is_out whats.Vs) v.holds.serving.out_is;
+    used = v.used;
+    tells_vs = v.holds.tells_vs;
+    tells_back = v.holds.tells_back;
+    leads = anew_leads;
+  }

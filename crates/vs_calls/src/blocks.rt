@@ -10,8 +10,8 @@ use heap_gate::{Caller, Heap, prepare, rest};
 use heap_model::{Act, GRANULE_BYTES};
 use vs_layer::Vs;
 
-/// Sees that the words of a block lie among the data words.
-pub(crate) fn lies_within(vs: &Vs, addr: u64)
+/// Nothing at run time but two looks at headers: it tells a proof that the words of a block lie among the data words.
+pub fn lies_within(vs: &Vs, addr: u64)
     requires { is_some (size_at vs.now addr) ≡ true }
     ensures { (size : ℕ) → size_at vs.now addr ≡ Some size → LiesWithin vs.now.limits addr size }
 {

@@ -12,8 +12,8 @@ mod requests;
 mod spans;
 
 pub use allocating::place_in_vs;
-pub use blocks::{measure_vs, take_out};
+pub use blocks::{lies_within, measure_vs, take_out};
 pub use dropping::drop_vs;
 pub use placing::{hold_in_gap, refuse};
 pub use requests::{hold_new, refuse_new};
-pub use spans::hold_in_new_span;
+pub use spans::{give_both, hold_in_new_span};

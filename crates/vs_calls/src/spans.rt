@@ -22,7 +22,7 @@ use heap_model::{Act, GRANULE_BYTES, Kind, Layer, Mark, SEGMENT_PAGES};
 use vs_layer::Vs;
 
 /// Gives both locks back behind what is prepared.
-pub(crate) fn give_both(heap: &Heap<State>, c: &mut Caller<State>, vs: Vs, back: Back)
+pub fn give_both(heap: &Heap<State>, c: &mut Caller<State>, vs: Vs, back: Back)
     requires table { c.old.table ≡ heap.now.table }
     requires both { HasVsAndBack c.old vs back }
     ensures { HasEnded c.old c.new (GiveLock whats.Back ∷ GiveLock whats.Vs ∷ []) [] }

@@ -6,35 +6,35 @@ use Rattle.claim_rule.specs.Places.{vs_slot}
 use Rattle.heap_gate.specs.Token.{Token}
 use Rattle.vs_calls.specs.Blocks.{LiesWithin, IsForVs}
 use Rattle.vs_calls.specs.Parts.{Refuses}
-use Rattle.vs_calls.proofs.SpanMay.{anew_may}
+use Rattle.vs_calls.proofs.SpanMay.{anew_holds, span_may}
 use Rattle.vs_calls.proofs.NewPlaced.{here_added, here_out, here_back, new_here}
 use Rattle.vs_calls.proofs.NewGiven.{first_added, first_room, first_limits, the_place, new_now, all_added, all_out, all_whole, all_inside, all_tells, anew_placed}
 use Rattle.vs_calls.proofs.allocating.place_in_span.Goals as goal
 
 pub hold_in_new_span-requires-clause-may : goal.hold_in_new_span-requires-clause-may
 hold_in_new_span-requires-clause-may c =
-    λ first run g. anew_may c.args.c.now c.args.vs c.args.back c.args.n c.args.zero c.requires.placing c.check.ensures.stands c.region-region.ensures.sound c.requires.size first run g
+    λ first run g. span_may c.args.c.now c.args.vs c.args.back c.args.n (anew_holds c.args.c.now c.args.vs c.args.back c.args.n c.args.zero c.requires.placing c.check.ensures.stands c.region-region.ensures.sound c.requires.size) first run g
 
 pub lies_within-requires : goal.lies_within-requires
 lies_within-requires c = ap is_some (ap (option_and_then (λ p. live_size p.status)) c.in-Some.ensures.held.there)
 
 pub give_back-requires-clause-table : goal.give_back-requires-clause-table
-give_back-requires-clause-table c = (here_added c.args.c.now c.hold_in_new_span.new.c c.args.vs c.hold_in_new_span.new.vs c.args.back c.hold_in_new_span.new.back c.args.n c.in-Some.addr c.args.zero c.requires.placing c.check.ensures.stands c.region-region.ensures.sound c.requires.size c.in-Some.ensures.held).goes.table ∙ c.requires.table.0
+give_back-requires-clause-table c = (here_added c.args.c.now c.hold_in_new_span.new.c c.args.vs c.hold_in_new_span.new.vs c.args.back c.hold_in_new_span.new.back c.args.n c.in-Some.addr (anew_holds c.args.c.now c.args.vs c.args.back c.args.n c.args.zero c.requires.placing c.check.ensures.stands c.region-region.ensures.sound c.requires.size) c.in-Some.ensures.held).goes.table ∙ c.requires.table.0
 
 pub give_back-requires-clause-whole : goal.give_back-requires-clause-whole
-give_back-requires-clause-whole c = (new_here c.args.c.now c.hold_in_new_span.new.c c.args.vs c.hold_in_new_span.new.vs c.args.back c.hold_in_new_span.new.back c.args.n c.in-Some.addr c.args.zero c.requires.placing c.check.ensures.stands c.region-region.ensures.sound c.requires.size c.in-Some.ensures.held).whole
+give_back-requires-clause-whole c = (new_here c.args.c.now c.hold_in_new_span.new.c c.args.vs c.hold_in_new_span.new.vs c.args.back c.hold_in_new_span.new.back c.args.n c.in-Some.addr (anew_holds c.args.c.now c.args.vs c.args.back c.args.n c.args.zero c.requires.placing c.check.ensures.stands c.region-region.ensures.sound c.requires.size) c.in-Some.ensures.held).whole
 
 pub give_back-requires-clause-inside : goal.give_back-requires-clause-inside
-give_back-requires-clause-inside c = ap (λ (b : Bool). b || not (c.hold_in_new_span.new.c.depth == 0)) (new_here c.args.c.now c.hold_in_new_span.new.c c.args.vs c.hold_in_new_span.new.vs c.args.back c.hold_in_new_span.new.back c.args.n c.in-Some.addr c.args.zero c.requires.placing c.check.ensures.stands c.region-region.ensures.sound c.requires.size c.in-Some.ensures.held).inside
+give_back-requires-clause-inside c = ap (λ (b : Bool). b || not (c.hold_in_new_span.new.c.depth == 0)) (new_here c.args.c.now c.hold_in_new_span.new.c c.args.vs c.hold_in_new_span.new.vs c.args.back c.hold_in_new_span.new.back c.args.n c.in-Some.addr (anew_holds c.args.c.now c.args.vs c.args.back c.args.n c.args.zero c.requires.placing c.check.ensures.stands c.region-region.ensures.sound c.requires.size) c.in-Some.ensures.held).inside
 
 pub give_back-requires-clause-lock : goal.give_back-requires-clause-lock
-give_back-requires-clause-lock c = (vs_slot ∷ [], here_out c.args.c.now c.hold_in_new_span.new.c c.args.vs c.hold_in_new_span.new.vs c.args.back c.hold_in_new_span.new.back c.args.n c.in-Some.addr c.args.zero c.requires.placing c.check.ensures.stands c.region-region.ensures.sound c.requires.size c.in-Some.ensures.held, refl)
+give_back-requires-clause-lock c = (vs_slot ∷ [], here_out c.args.c.now c.hold_in_new_span.new.c c.args.vs c.hold_in_new_span.new.vs c.args.back c.hold_in_new_span.new.back c.args.n c.in-Some.addr (anew_holds c.args.c.now c.args.vs c.args.back c.args.n c.args.zero c.requires.placing c.check.ensures.stands c.region-region.ensures.sound c.requires.size) c.in-Some.ensures.held ∙ c.requires.placing.holds.serving.out_is, refl)
 
 pub give_back-requires-clause-tells : goal.give_back-requires-clause-tells
-give_back-requires-clause-tells c = here_back c.args.c.now c.hold_in_new_span.new.c c.args.vs c.hold_in_new_span.new.vs c.args.back c.hold_in_new_span.new.back c.args.n c.in-Some.addr c.args.zero c.requires.placing c.check.ensures.stands c.region-region.ensures.sound c.requires.size c.in-Some.ensures.held
+give_back-requires-clause-tells c = here_back c.args.c.now c.hold_in_new_span.new.c c.args.vs c.hold_in_new_span.new.vs c.args.back c.hold_in_new_span.new.back c.args.n c.in-Some.addr (anew_holds c.args.c.now c.args.vs c.args.back c.args.n c.args.zero c.requires.placing c.check.ensures.stands c.region-region.ensures.sound c.requires.size) c.in-Some.ensures.held
 
 pub give_back-requires-clause-paid : goal.give_back-requires-clause-paid
-give_back-requires-clause-paid c = (here_added c.args.c.now c.hold_in_new_span.new.c c.args.vs c.hold_in_new_span.new.vs c.args.back c.hold_in_new_span.new.back c.args.n c.in-Some.addr c.args.zero c.requires.placing c.check.ensures.stands c.region-region.ensures.sound c.requires.size c.in-Some.ensures.held).steady.owes ∙ c.requires.placing.holds.serving.owes
+give_back-requires-clause-paid c = (here_added c.args.c.now c.hold_in_new_span.new.c c.args.vs c.hold_in_new_span.new.vs c.args.back c.hold_in_new_span.new.back c.args.n c.in-Some.addr (anew_holds c.args.c.now c.args.vs c.args.back c.args.n c.args.zero c.requires.placing c.check.ensures.stands c.region-region.ensures.sound c.requires.size) c.in-Some.ensures.held).steady.owes ∙ c.requires.placing.holds.serving.owes
 
 pub hand_over-requires-clause-table : goal.hand_over-requires-clause-table
 hand_over-requires-clause-table c =
