@@ -23,11 +23,13 @@ use Rattle.call_parts.proofs.Joining.{goes_does, goes_then, setting_before}
 use Rattle.call_parts.proofs.Serving.{none_begins, none_begins-append, shape-append}
 use Rattle.small_calls.specs.Fronts.{HasOne}
 use Rattle.small_calls.specs.Ways.{KeepsVs}
+use Rattle.small_calls.specs.Late.{tries_none}
 use Rattle.small_calls.specs.Under.{IsGivenUnderBack, SearchesOn, IsServedUnderBack}
 use Rattle.small_calls.proofs.Found.{same_by}
 use Rattle.small_calls.proofs.Shown.{readings_shown, zeros_begun}
 use Rattle.small_calls.proofs.BackHeld.{vs_kept}
 use Rattle.small_calls.proofs.MadeLeft.{served_left}
+use Rattle.small_calls.proofs.Tries.{none-append, none_read, none_zeroed, none_came}
 
 -- the acts that make a subsegment are not shown
 makes_shown : (a : Area) (first b t : ℕ) → (shape_of (makes a first b t) ≡ []) × (none_begins (makes a first b t) ≡ true)
@@ -84,6 +86,12 @@ module _ (a d : Token) (back after : Kept) (course : Course) (lost n addr : ℕ)
     shown_last : (shape_of last ≡ zeroing zero_it addr n ++ acts.Give addr n ∷ []) × (none_begins last ≡ true)
     shown_last = zeros_begun addr n zero_it (acts.Give addr n ∷ acts.GiveLock whats.Back ∷ []) refl
 
+    tries_first : tries_none whats.Vs first ≡ true
+    tries_first =
+        let ps : List Act = place course.bucket x.head x.index ∷ [] in
+        none-append whats.Vs x.its (x.made ++ ps) (none_read whats.Vs x.its x.are)
+        (none-append whats.Vs x.made ps (none_came whats.Vs back after course.bucket (Rattle.lfh_claims.specs.Search.own_slot a) course.draw.value x.head x.index x.made x.came) refl)
+
     pub served_under : IsServedUnderBack a e (calls.Alloc n h.flags) course.bucket n zero_it addr more
     served_under = record {
       head = x.head;
@@ -92,6 +100,7 @@ module _ (a d : Token) (back after : Kept) (course : Course) (lost n addr : ℕ)
       added = first ++ last;
       goes = goes_then a d e first last goes_first g.ended.added.goes;
       no_begin = none_begins-append first last shown_first.1 shown_last.1;
+      no_vs = none-append whats.Vs first last tries_first (none_zeroed whats.Vs addr n zero_it (acts.Give addr n ∷ acts.GiveLock whats.Back ∷ []) refl);
       shape_is = shape-append first last ∙ ((λ i. shown_first.0 i ++ shown_last.0 i) ∙ (λ i. place course.bucket x.head x.index ∷ (zeroing zero_it (x.address i) n ++ acts.Give (x.address i) n ∷ [])));
       rests = record {
         call_is = g.ended.added.steady.call ∙ (x.stands.call ∙ h.call_is);

@@ -99,6 +99,7 @@ module _ (c e : Token) (back : Kept) (course : Course) (lost n : ℕ) (zero_it :
     added = acts.TakeLock whats.Back ∷ y.added;
     goes = goes_then c e d (acts.TakeLock whats.Back ∷ []) y.added goes_taken y.goes;
     no_begin = y.no_begin;
+    no_vs = y.no_vs;
     shape_is = y.shape_is;
     rests = y.rests;
     keeps = λ vs there k. y.keeps vs (out_vs there) (taken_keeps vs there k);

@@ -4,11 +4,12 @@ pub mod Given
 pub mod Found
 pub mod Shown
 pub mod Asking
+pub mod Tries
+pub mod SeenActive
 pub mod VsHeld
 pub mod BackHeld
 pub mod BackSearch
 pub mod ForVs
-pub mod Falling
 pub mod GoingUnder
 pub mod BehindHint
 pub mod MadeLeft
@@ -17,3 +18,4 @@ pub mod NoRoomHeld
 pub mod BehindVs
 pub mod GoneBehind
 pub mod Refusals
+pub mod Late

@@ -155,6 +155,7 @@ module _ (a c : Token) (back : Kept) (course : Course) (before_it lost n : ℕ) 
       its = y.its;
       are = y.are;
       goes = goes_then c e d (acts.TakeLock whats.Vs ∷ []) y.its goes_e y.goes;
+      call = y.call ∙ t.stands.call;
       stands = y.stands;
       keeps = y.keeps;
       back_is = y.back_is;

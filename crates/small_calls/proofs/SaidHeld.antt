@@ -162,4 +162,4 @@ module _ (e : Token) (vs : VsKept) (back : Kept) (course : Course) (n : ℕ) (fl
   pub for_vs : (d : Token) (later : Kept) → IsNotServed e d back later course → IsForVsBehind e d vs later course.bucket n zero_it [] out
   for_vs d later x =
       let y = gone_with d x.its x.are x.gone in
-      record { flags = flags; zero_is = zero_is; its = x.its; are = x.are; goes = y.0; stands = y.1.0; keeps = y.1.1; back_is = x.back_is; cannot = x.cannot }
+      record { flags = flags; zero_is = zero_is; its = x.its; are = x.are; goes = y.0; call = y.1.0.call_is ∙ sym z.call_is; stands = y.1.0; keeps = y.1.1; back_is = x.back_is; cannot = x.cannot }

@@ -135,6 +135,7 @@ pub record IsForVsBehind (old new : Token) (vs : VsKept) (back : Kept) (b n : â„
   pub its : List Act
   pub are : AreReadings its
   pub goes : GoesOn old new (taking ++ its)
+  pub call : new.call â‰¡ old.call
   pub stands : HasSearched new (calls.Alloc n flags) out
   pub keeps : KeepsVs new vs
   pub back_is : IsBackOf new back

@@ -1,7 +1,7 @@
 pub mod Fronts
 pub mod Ways
+pub mod Late
 pub mod Under
 pub mod ByVs
-pub mod Behind
 pub mod GoingOn
 pub mod Served

@@ -21,6 +21,7 @@ use Rattle.lfh_claims.specs.Search.{own_slot}
 use Rattle.lfh_search.specs.declared.course.Course.{Course}
 use Rattle.lfh_search.specs.Under.{IsUnder, HasNotSaid, HasNoPages}
 use Rattle.small_calls.specs.Fronts.{IsResting, front_acts}
+use Rattle.small_calls.specs.Late.{tries_none}
 use Rattle.small_calls.specs.Ways.{KeepsVs}
 use Rattle.small_calls.specs.declared.back_search.UnderBack.{UnderBack}
 use Rattle.small_calls.specs.declared.back_search.UnderBack.TheVariants.{Placed, NoRoom}
@@ -51,7 +52,8 @@ pub record SearchesOn (c : Token) (back : Kept) (course : Course) (lost n : ℕ)
   pub under : IsUnder c back course search lost
   pub first : HasNotSaid c
 
--- A block of n bytes of the bucket is given at this address, and then the lock, behind which these are held. What VS is stays, where its lock is held.
+-- A block of n bytes of the bucket is given at this address, and then the lock, behind which these are held. The lock of VS is not tried, and what VS is stays,
+-- where its lock is held.
 pub record IsServedUnderBack (old new : Token) (call : Call) (b n : ℕ) (zero : Bool) (addr : ℕ) (more : List ℕ) : Type 0 where
   pub head : ℕ
   pub index : ℕ
@@ -59,6 +61,7 @@ pub record IsServedUnderBack (old new : Token) (call : Call) (b n : ℕ) (zero :
   pub added : List Act
   pub goes : GoesOn old new added
   pub no_begin : list_all (λ act. not (is_begin act)) added ≡ true
+  pub no_vs : tries_none whats.Vs added ≡ true
   pub shape_is : shape_of added ≡ front_acts b head index n zero
   pub rests : IsResting new call more
   pub keeps : (vs : VsKept) → is_out whats.Vs old.out ≡ true → KeepsVs old vs → KeepsVs new vs

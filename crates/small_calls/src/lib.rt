@@ -4,7 +4,6 @@
 #![tactic(auto)]
 
 mod back_search;
-mod behind;
 mod by_vs;
 mod front;
 mod no_room;
@@ -17,7 +16,6 @@ mod ways;
 mod with_both;
 
 pub use back_search::{UnderBack, serve_under_back};
-pub use behind::{hold_behind, refuse_behind};
 pub use by_vs::{SmallTry, place_by_vs, try_inactive};
 pub use front::{ByHint, hand_over_front, serve_by_hint};
 pub use no_room::{BehindNoSpan, go_on, search_with_vs};

@@ -5,6 +5,7 @@ ghost use Rattle.heap_gate.specs.Token.{Token};
 ghost use Rattle.lfh_search.specs.Courses.{IsCourse};
 ghost use Rattle.small_calls.specs.GoingOn.{IsWithoutRoom, SearchesWithVs, GoneOn};
 ghost use Rattle.small_calls.specs.Ways.{IsSpent};
+ghost use Rattle.small_calls.specs.Late.{GoesLate};
 
 use crate::spent::{BehindSpent, try_under_back};
 use crate::under_back::hand_over_vs_first;
@@ -78,7 +79,8 @@ pub fn go_on(
     requires table { (c.old.table ≡ heap.now.table) × (c.old.opening ≡ heap.now.opening) }
     requires bucket { bucket_of n ≡ Some bucket }
     requires spent { (first : Token) × IsSpent first c.old n zero bucket draw.value lost }
-    ensures { (first : Token) → IsSpent first c.old n zero bucket draw.value lost → GoneOn first c.new bucket draw.value lost n zero result }
+    ensures gone { (first : Token) → IsSpent first c.old n zero bucket draw.value lost → GoneOn first c.new bucket draw.value lost n zero result }
+    ensures late { GoesLate c.old c.new bucket }
 {
     let course = Course::new(bucket, draw);
     match try_under_back(heap, c, &course, lost, n, zero) {

@@ -5,6 +5,7 @@ ghost use Rattle.heap_gate.specs.Token.{Token};
 ghost use Rattle.paged_calls.specs.Parts.{IsAllocating};
 ghost use Rattle.small_calls.specs.Ways.{IsSpent, IsSpentUnderVs};
 ghost use Rattle.small_calls.specs.Served.{ServesSmall};
+ghost use Rattle.small_calls.specs.Late.{GoesLate, IsLateCall};
 
 use crate::by_vs::SmallTry;
 use crate::no_room::{BehindNoSpan, go_on};
@@ -43,7 +44,8 @@ fn serve_spent(
     requires table { (c.old.table ≡ heap.now.table) × (c.old.opening ≡ heap.now.opening) }
     requires bucket { bucket_of n ≡ Some bucket }
     requires spent { (first : Token) × IsSpent first c.old n zero bucket draw.value lost }
-    ensures { (first : Token) → IsSpent first c.old n zero bucket draw.value lost → ServesSmall first c.new n zero result }
+    ensures serves { (first : Token) → IsSpent first c.old n zero bucket draw.value lost → ServesSmall first c.new n zero result }
+    ensures late { GoesLate c.old c.new bucket }
 {
     match go_on(heap, c, bucket, n, zero, lost, draw) {
         BehindNoSpan::Busy(busy) => SmallCall::Refused(AllocNo::Busy(busy)),
@@ -81,7 +83,8 @@ pub fn serve_small(heap: &Heap<State>, c: &mut Caller<State>, n: u64, zero: bool
     requires size { n ≤ 131072 }
     requires table { (c.old.table ≡ heap.now.table) × (c.old.opening ≡ heap.now.opening) }
     requires allocating { IsAllocating c.old n zero }
-    ensures { ServesSmall c.old c.new n zero result }
+    ensures serves { ServesSmall c.old c.new n zero result }
+    ensures late { IsLateCall c.old c.new n result }
 {
     match try_small(heap, c, n, zero) {
         SmallTry::Placed { addr } => SmallCall::Placed { addr },

@@ -4,6 +4,7 @@ ghost use Rattle.heap_model.specs.Buckets.{bucket_of};
 ghost use Rattle.paged_calls.specs.Parts.{IsAllocating};
 ghost use Rattle.small_calls.specs.Fronts.{IsAsking};
 ghost use Rattle.small_calls.specs.ByVs.{TriesSmall};
+ghost use Rattle.small_calls.specs.Late.{IsLateTry};
 
 use crate::by_vs::{SmallTry, place_by_vs, try_inactive};
 use crate::ways::{FirstTry, try_front};
@@ -23,7 +24,8 @@ pub fn try_bucket(
     requires table { (c.old.table ≡ heap.now.table) × (c.old.opening ≡ heap.now.opening) }
     requires bucket { bucket_of n ≡ Some bucket }
     requires asking { IsAsking c.old n zero [] }
-    ensures { TriesSmall c.old c.new n zero result }
+    ensures tries { TriesSmall c.old c.new n zero result }
+    ensures late { IsLateTry c.old c.new n result }
 {
     match try_front(heap, c, bucket, n, zero) {
         FirstTry::Placed { addr } => SmallTry::Placed { addr },
@@ -38,7 +40,8 @@ pub fn try_small(heap: &Heap<State>, c: &mut Caller<State>, n: u64, zero: bool) 
     requires size { n ≤ 131072 }
     requires table { (c.old.table ≡ heap.now.table) × (c.old.opening ≡ heap.now.opening) }
     requires allocating { IsAllocating c.old n zero }
-    ensures { TriesSmall c.old c.new n zero result }
+    ensures tries { TriesSmall c.old c.new n zero result }
+    ensures late { IsLateTry c.old c.new n result }
 {
     if let Some(bucket) = bucket_of(n) {
         return try_bucket(heap, c, bucket, n, zero);

@@ -7,6 +7,7 @@ ghost use Rattle.heap_gate.specs.Token.{Token, is_out};
 ghost use Rattle.lfh_search.specs.Courses.{IsCourse};
 ghost use Rattle.small_calls.specs.GoingOn.{HasSpent, ComesUnderBack, TriesUnderBack};
 ghost use Rattle.small_calls.specs.Ways.{IsSpent};
+ghost use Rattle.small_calls.specs.Late.{GoesLate};
 
 use crate::back_search::{UnderBack, serve_under_back};
 use backend_fit::Back;
@@ -71,7 +72,8 @@ pub fn try_under_back(
     requires course { IsCourse course.now }
     requires bucket { bucket_of n ≡ Some course.now.bucket }
     requires spent { (first : Token) × IsSpent first c.old n zero course.now.bucket course.now.draw.value lost }
-    ensures { (first : Token) → IsSpent first c.old n zero course.now.bucket course.now.draw.value lost → TriesUnderBack first c.old c.new course.now lost n zero result }
+    ensures tries { (first : Token) → IsSpent first c.old n zero course.now.bucket course.now.draw.value lost → TriesUnderBack first c.old c.new course.now lost n zero result }
+    ensures late { GoesLate c.old c.new course.now.bucket }
 {
     go_under_back(heap, c, course, lost, n, zero)
 }

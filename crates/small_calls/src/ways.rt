@@ -3,6 +3,7 @@ ghost use Rattle.std.specs.Prelude.{◌≡◌, ℕ, Bool, Some, []};
 ghost use Rattle.heap_model.specs.Buckets.{bucket_of};
 ghost use Rattle.small_calls.specs.Fronts.{IsAsking};
 ghost use Rattle.small_calls.specs.Ways.{Tries, AsksUnderVs, LooksUnderVs};
+ghost use Rattle.small_calls.specs.Late.{IsFirstTry};
 
 use crate::front::{ByHint, serve_by_hint};
 use call_parts::State;
@@ -34,7 +35,8 @@ pub fn try_front(
     requires table { (c.old.table ≡ heap.now.table) × (c.old.opening ≡ heap.now.opening) }
     requires bucket { bucket_of n ≡ Some bucket }
     requires asking { IsAsking c.old n zero [] }
-    ensures { Tries c.old c.new bucket n zero result }
+    ensures tries { Tries c.old c.new bucket n zero result }
+    ensures late { IsFirstTry c.old c.new bucket result }
 {
     if !active_of(heap, c, bucket) {
         return FirstTry::Inactive;
