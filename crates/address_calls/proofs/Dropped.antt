@@ -1,14 +1,9 @@
 -- A block of the variable-size layer that is given back, or not.
-use Rattle.std.proofs.Common.{◌≡◌, ℕ, ◌*◌, ◌/◌, ◌<◌, true, [], ◌∷◌, Some, refl, sym, subst}
-use Rattle.heap_model.specs.declared.Act.TheVariants as acts
+use Rattle.std.proofs.Common.{ℕ, true, refl, sym, subst}
 use Rattle.heap_model.specs.declared.Busy.{Busy}
-use Rattle.heap_model.specs.declared.Call.{Call}
-use Rattle.heap_model.specs.declared.What.{What}
-use Rattle.heap_model.specs.declared.What.TheVariants as whats
 use Rattle.heap_gate.specs.Token.{Token}
 use Rattle.vs_layer.specs.Kept.{VsKept}
-use Rattle.call_parts.specs.Calls.{MeetsBusy}
-use Rattle.paged_calls.specs.Parts.{ForCall, Drops}
+use Rattle.paged_calls.specs.Parts.{Drops}
 use Rattle.vs_calls.specs.Parts.{HasFreed, KeepsBlock}
 use Rattle.address_calls.specs.Answers.{MayGuard, MeetsOn}
 use Rattle.address_calls.specs.Finds.{IsOfVs}

@@ -1,6 +1,9 @@
+pub mod TaggedLists
+mod TagRead
 mod Behind
-mod States
+pub mod States
 mod Hearing
 mod Words
 mod Parts
 mod Dropped
+mod AtOnce

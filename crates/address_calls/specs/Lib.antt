@@ -1,3 +1,4 @@
 pub mod Finds
 pub mod Answers
 pub mod Slots
+pub mod Tagged

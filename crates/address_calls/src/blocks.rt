@@ -7,6 +7,7 @@ ghost use Rattle.paged_calls.specs.Parts.{Measures};
 ghost use Rattle.front_calls.specs.Parts.{GoesBy};
 ghost use Rattle.address_calls.specs.Answers.{MeetsOn, HasWords};
 ghost use Rattle.address_calls.specs.Finds.{IsFree, IsFound, IsNone};
+ghost use Rattle.address_calls.specs.Tagged.{KnowsTag, MeasuresAtOnce, MeasuresAsFront};
 
 use crate::denials::deny;
 use crate::look::{Found, look_up};
@@ -19,13 +20,15 @@ use paged_calls::{measure_back, measure_huge};
 use vs_calls::measure_vs;
 
 /// The size of the live block that begins at an address, or `None` where no live block has it. It may be asked of each address. Each
-/// lock is given back. The words of the block are data words, from word `addr / 8` on.
+/// lock is given back, and none is taken where the caller knows the tag of the page. The words of the block are data words, from word
+/// `addr / 8` on.
 pub fn measure(heap: &Heap<State>, c: &mut Caller<State>, addr: u64) -> Result<Option<u64>, Busy>
     requires table { (c.old.table ≡ heap.now.table) × (c.old.opening ≡ heap.now.opening) }
     requires serving { (call : ACall) × IsServing c.old call [] }
     ensures found { IfOk result (λ told. Measures c.old c.new addr told) }
     ensures words { IfOk result (λ told. HasWords c.old.opening.limits addr told) }
     ensures busy { IfErr result (λ b. MeetsOn c.old c.new addr b) }
+    ensures tagged { KnowsTag c.old addr → MeasuresAtOnce c.old c.new addr result }
 {
     match look_up(heap, c, addr) {
         Ok(found) => Ok(measure_there(heap, c, found, addr)),
@@ -39,6 +42,7 @@ fn measure_there(heap: &Heap<State>, c: &mut Caller<State>, found: Found, addr: 
     requires found { IsFound c.old addr found }
     ensures measured { Measures c.old c.new addr result }
     ensures words { HasWords c.old.opening.limits addr result }
+    ensures front { MeasuresAsFront found c.old c.new addr result }
 {
     let _limits = heap.limits();
     let Some(size) = measure_found(heap, c, found, addr) else {
@@ -53,7 +57,8 @@ fn measure_there(heap: &Heap<State>, c: &mut Caller<State>, found: Found, addr: 
 fn measure_found(heap: &Heap<State>, c: &mut Caller<State>, found: Found, addr: u64) -> Option<u64>
     requires table { (c.old.table ≡ heap.now.table) × (c.old.opening ≡ heap.now.opening) }
     requires found { IsFound c.old addr found }
-    ensures { Measures c.old c.new addr result }
+    ensures measured { Measures c.old c.new addr result }
+    ensures front { MeasuresAsFront found c.old c.new addr result }
 {
     match found {
         Found::Front(tag) => measure_front(heap, c, tag, addr),

@@ -5,6 +5,7 @@ ghost use Rattle.call_parts.specs.Calls.{IsServing};
 ghost use Rattle.paged_calls.specs.Parts.{Drops};
 ghost use Rattle.address_calls.specs.Answers.{MeetsOn};
 ghost use Rattle.address_calls.specs.Finds.{IsFound, IsOfVs};
+ghost use Rattle.address_calls.specs.Tagged.{KnowsTag, DropsAtOnce, DropsAsFront};
 
 use crate::blocks::say_none;
 use crate::look::{Found, look_up};
@@ -17,12 +18,14 @@ use vs_calls::drop_vs;
 use vs_layer::Vs;
 
 /// Takes the live block that begins at an address and gives its place back, or answers `false` where no live block has it. It may be
-/// asked of each address. Each lock is given back. Where another caller holds a lock that this needs, the block stays.
+/// asked of each address. Each lock is given back, and none is taken where the caller knows the tag of the page. Where another caller
+/// holds a lock that this needs, the block stays.
 pub fn drop_block(heap: &Heap<State>, c: &mut Caller<State>, addr: u64) -> Result<bool, Busy>
     requires table { (c.old.table ≡ heap.now.table) × (c.old.opening ≡ heap.now.opening) }
     requires serving { (call : ACall) × IsServing c.old call [] }
     ensures dropped { IfOk result (λ did. Drops c.old c.new addr did) }
     ensures busy { IfErr result (λ b. MeetsOn c.old c.new addr b) }
+    ensures tagged { KnowsTag c.old addr → DropsAtOnce c.old c.new addr result }
 {
     match look_up(heap, c, addr) {
         Ok(found) => drop_found(heap, c, found, addr),
@@ -41,6 +44,7 @@ fn drop_found(
     requires found { IsFound c.old addr found }
     ensures dropped { IfOk result (λ did. Drops c.old c.new addr did) }
     ensures busy { IfErr result (λ b. MeetsOn c.old c.new addr b) }
+    ensures front { DropsAsFront found c.old c.new addr result }
 {
     match found {
         Found::Front(tag) => Ok(drop_front(heap, c, tag, addr)),

@@ -7,6 +7,7 @@
 mod blocks;
 mod denials;
 mod drops;
+pub mod laws;
 mod look;
 mod slots;
 

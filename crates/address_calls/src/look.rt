@@ -11,6 +11,7 @@ ghost use Rattle.block_steps.specs.Blocks.{MayAsk};
 ghost use Rattle.heap_gate.specs.Token.{Always, now};
 ghost use Rattle.address_calls.specs.Answers.{MeetsOn};
 ghost use Rattle.address_calls.specs.Finds.{Looks, IsFree, IsFound, IsFront, FrontBy, FindsFront};
+ghost use Rattle.address_calls.specs.Tagged.{KnowsTag, FindsAtOnce};
 
 use backend_fit::Back;
 use call_parts::{State, give_back, give_vs, take_back, take_large, take_vs};
@@ -36,13 +37,15 @@ pub enum Found {
 }
 
 /// Finds out which layer the block at an address would be of, and takes the locks that this layer's parts ask. Each lock is tried
-/// once: where another caller has one, those that were taken are given back.
+/// once: where another caller has one, those that were taken are given back. Where the caller knows the tag of the page, it takes
+/// none.
 pub fn look_up(heap: &Heap<State>, c: &mut Caller<State>, addr: u64) -> Result<Found, Busy>
     requires table { (c.old.table ≡ heap.now.table) × (c.old.opening ≡ heap.now.opening) }
     requires serving { IsFree c.old }
     ensures looks { OnOk result (Looks c.old c.new) }
     ensures found { IfOk result (λ found. IsFound c.new addr found) }
     ensures front { IfOk result (λ found. FindsFront c.old c.new found) }
+    ensures tagged { KnowsTag c.old addr → FindsAtOnce c.old c.new result }
     ensures busy { IfErr result (λ b. MeetsOn c.old c.new addr b) }
 {
     let limits = heap.limits();
@@ -70,6 +73,7 @@ fn look_in_large(heap: &Heap<State>, c: &mut Caller<State>, addr: u64) -> Result
     ensures looks { OnOk result (Looks c.old c.new) }
     ensures found { IfOk result (λ found. IsFound c.new addr found) }
     ensures front { IfOk result (λ found. FindsFront c.old c.new found) }
+    ensures tagged { KnowsTag c.old addr → FindsAtOnce c.old c.new result }
     ensures busy { IfErr result (λ b. MeetsOn c.old c.new addr b) }
 {
     match take_large(heap, c) {
@@ -93,14 +97,19 @@ fn look_in_segments(
     ensures looks { OnOk result (Looks c.old c.new) }
     ensures found { IfOk result (λ found. IsFound c.new addr found) }
     ensures front { IfOk result (λ found. FindsFront c.old c.new found) }
+    ensures tagged { KnowsTag c.old addr → FindsAtOnce c.old c.new result }
     ensures busy { IfErr result (λ b. MeetsOn c.old c.new addr b) }
 {
+    c.check();
     match tag_of(heap, c, page) {
         Some(tag) => {
             c.check();
             Ok(Found::Front(tag))
         }
-        None => look_under_vs(heap, c, addr, page),
+        None => {
+            c.check();
+            look_under_vs(heap, c, addr, page)
+        }
     }
 }
 
