@@ -1,0 +1,12 @@
+pub mod Histories
+pub mod Finding
+pub mod Ending
+pub mod LargeStays
+pub mod VsStays
+pub mod BlockAt
+pub mod BackStays
+pub mod FrontStays
+pub mod Heard
+pub mod Nowhere
+pub mod RefusedFront
+pub mod Behind

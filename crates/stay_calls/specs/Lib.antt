@@ -1,0 +1,4 @@
+pub mod Moments
+pub mod Stays
+pub mod Backs
+pub mod Heard
