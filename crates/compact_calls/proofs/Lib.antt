@@ -1,0 +1,9 @@
+pub mod Owning
+pub mod Hearing
+pub mod Doing
+pub mod Sweeping
+pub mod Decommitting
+pub mod Bits
+pub mod Emptying
+pub mod Compacting
+pub mod Calling

@@ -1,0 +1,5 @@
+pub mod Owner
+pub mod Sound
+pub mod Pages
+pub mod Empties
+pub mod Compact
