@@ -1,6 +1,5 @@
 -- The calls on a block at an address, from what is found there.
-use Rattle.std.proofs.Common.{◌≡◌, ◌≢◌, ℕ, List, [], ◌∷◌, Some, None, refl, subst}
-use Rattle.heap_model.specs.declared.Act.{Act}
+use Rattle.std.proofs.Common.{◌≡◌, ◌≢◌, ℕ, [], ◌∷◌, Some, None, refl, subst}
 use Rattle.heap_model.specs.declared.Act.TheVariants as acts
 use Rattle.heap_model.specs.declared.Busy.{Busy}
 use Rattle.heap_model.specs.declared.Call.{Call}
@@ -12,7 +11,7 @@ use Rattle.heap_model.specs.declared.What.{What}
 use Rattle.heap_model.specs.declared.What.TheVariants as whats
 use Rattle.heap_model.specs.Shape.{Replied, WasBusy}
 use Rattle.heap_gate.specs.Token.{Token}
-use Rattle.call_parts.specs.Calls.{IsServing, IsInside, Makes}
+use Rattle.call_parts.specs.Calls.{IsServing, Makes}
 use Rattle.paged_calls.specs.Parts.{Measures}
 use Rattle.address_calls.specs.Answers.{MayGuard, MeetsOn}
 use Rattle.heap_now.specs.Calls.{ServesWith}

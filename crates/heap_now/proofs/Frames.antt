@@ -1,5 +1,5 @@
 -- How a call begins and ends, and how a part between answers it.
-use Rattle.std.proofs.Common.{◌≡◌, ◌≢◌, ℕ, ◌+◌, true, false, List, [], ◌∷◌, ◌++◌, refl, sym, ap, ◌∙◌, subst, inl, inr}
+use Rattle.std.proofs.Common.{◌≡◌, ◌≢◌, ℕ, ◌+◌, List, [], ◌∷◌, ◌++◌, refl, sym, ◌∙◌, subst, inl, inr}
 use Rattle.std.specs.Prelude.{Result, Ok, Err, OnOk, IfErr}
 use Rattle.heap_model.specs.declared.Act.{Act}
 use Rattle.heap_model.specs.declared.Act.TheVariants as acts
@@ -41,6 +41,7 @@ module _ (a : Token) (call : Call) (r : IsReady a) where
       let g = goes_then a begun b (acts.Begin call ∷ []) (acts.Enter ∷ []) (goes_prepared a (acts.Begin call)) (goes_does begun b (acts.Enter ∷ []) x.runs.does s.depth) in
       record {
         goes = g;
+        legal = x.runs.does.legal;
         serving = record {
           call_is = s.call;
           fresh = s.fresh;

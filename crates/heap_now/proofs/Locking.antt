@@ -1,9 +1,8 @@
 -- The heap lock, from what a caller does at the gate.
-use Rattle.std.proofs.Common.{◌≡◌, ◌≢◌, ℕ, zero, suc, ◌+◌, ◌-◌, ◌<◌, ◌||◌, Bool, true, false, cond, List, [], ◌∷◌, ◌++◌, refl, sym, ap, ◌∙◌, subst, arith}
+use Rattle.std.proofs.Common.{◌≡◌, ◌≢◌, ℕ, zero, suc, ◌+◌, ◌-◌, Bool, true, cond, List, [], ◌∷◌, ◌++◌, refl, sym, ap, ◌∙◌, subst, arith}
 use Rattle.std.specs.Prelude.{Result, Ok, Err, OnOk, OnErr, IfErr}
 use Rattle.heap_model.specs.declared.Act.{Act}
 use Rattle.heap_model.specs.declared.Act.TheVariants as acts
-use Rattle.heap_model.specs.declared.Busy.{Busy}
 use Rattle.heap_model.specs.declared.Call.{Call}
 use Rattle.heap_model.specs.declared.Call.TheVariants as calls
 use Rattle.heap_model.specs.declared.Entry.{Entry}
@@ -17,9 +16,8 @@ use Rattle.heap_model.specs.Shape.{Answer, Replied, WasBusy, HasActs, shape_of}
 use Rattle.call_laws.specs.Within.{by_all}
 use Rattle.claim_rule.specs.Entries.{entry}
 use Rattle.heap_gate.specs.Token.{HeapToken, Token}
-use Rattle.heap_gate.specs.Calls.{Does, Stance, Stands, stance, with_prepared, with_depth, begins, begun_with, begun_unlock, begins_unlock, IsRefusedLock, IsDeeper, IsShallower, HasUnlocked}
-use Rattle.call_parts.specs.Calls.{IsReadyToCall}
-use Rattle.call_parts.proofs.Joining.{goes_does, goes_prepared, goes_then}
+use Rattle.heap_gate.specs.Calls.{Does, Stance, Stands, stance, with_prepared, with_depth, begins, begun_with, IsRefusedLock, IsDeeper, IsShallower}
+use Rattle.call_parts.proofs.Joining.{goes_does}
 use Rattle.call_parts.proofs.Serving.{answers, none_begins}
 use Rattle.heap_now.specs.Calls.{IsReady, IsCallerOf, Gets}
 use Rattle.heap_now.specs.Locks.{IsLockedMore, IsLockedLess, IsNotLocked}

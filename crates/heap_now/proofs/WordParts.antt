@@ -1,20 +1,18 @@
 -- The calls on a block at an address, from what their parts do.
-use Rattle.std.proofs.Common.{◌≡◌, ℕ, ◌+◌, ◌/◌, ◌<◌, true, List, [], ◌∷◌, ◌++◌, refl, sym, ap, ◌∙◌, subst}
+use Rattle.std.proofs.Common.{◌≡◌, ℕ, ◌+◌, ◌/◌, true, List, [], ◌∷◌, ◌++◌, refl, sym, ◌∙◌, subst}
 use Rattle.std.specs.Prelude.{Result, Ok, Err}
 use Rattle.heap_model.specs.declared.Act.{Act}
 use Rattle.heap_model.specs.declared.Act.TheVariants as acts
 use Rattle.heap_model.specs.declared.Call.{Call}
 use Rattle.heap_model.specs.declared.Call.TheVariants as calls
-use Rattle.heap_model.specs.declared.Reply.TheVariants as replies
 use Rattle.heap_model.specs.declared.What.{What}
 use Rattle.heap_model.specs.declared.WordNo.{WordNo}
 use Rattle.heap_model.specs.declared.WordNo.TheVariants as word_nos
-use Rattle.heap_model.specs.Legal.{is_begin}
-use Rattle.heap_model.specs.Shape.{Answer, shape_of}
+use Rattle.heap_model.specs.Shape.{shape_of}
 use Rattle.heap_gate.specs.Token.{Token}
 use Rattle.heap_gate.specs.Calls.{Runs, Stands, stance}
 use Rattle.claim_rule.specs.Entries.{entry}
-use Rattle.call_parts.specs.Calls.{IsInside, Makes}
+use Rattle.call_parts.specs.Calls.{Makes}
 use Rattle.call_parts.proofs.Joining.{goes_then, goes_does}
 use Rattle.call_parts.proofs.Serving.{none_begins, none_begins-append, shape-append}
 use Rattle.heap_now.specs.Calls.{ServesWith}

@@ -32,6 +32,7 @@ pub record IsCallerOf (h : HeapToken) (c : Token) : Type 0 where
 -- The call has begun and the caller has entered, and has done nothing else.
 pub record HasBegun (old new : Token) (call : Call) : Type 0 where
   pub goes : GoesOn old new (acts.Begin call ∷ acts.Enter ∷ [])
+  pub legal : IsLegalWith new.opening new.roll new.seen
   pub serving : IsServing new call []
 
 -- The caller has left, and is ready to call again.

@@ -1,3 +1,5 @@
 pub mod Calls
 pub mod Words
 pub mod Locks
+pub mod Tagged
+pub mod Callers

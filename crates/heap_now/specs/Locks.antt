@@ -1,5 +1,5 @@
 -- How the heap lock is taken and given back.
-use Rattle.std.specs.Prelude.{◌≡◌, ◌≢◌, ℕ, ◌+◌, ◌-◌, ◌<◌}
+use Rattle.std.specs.Prelude.{◌≡◌, ◌≢◌, ◌+◌, ◌-◌, ◌<◌}
 use Rattle.heap_model.specs.declared.Call.TheVariants as calls
 use Rattle.heap_model.specs.declared.LockNo.{LockNo}
 use Rattle.heap_model.specs.declared.LockNo.TheVariants as lock_nos

@@ -1,9 +1,11 @@
-//! The calls on a block that its address names.
+//! The calls on a block that its address names. None of them takes a lock for a block of a subsegment that the caller has seen tagged.
 ghost use Rattle.std.specs.Prelude.{◌≡◌, []};
 ghost use Rattle.heap_model.specs.declared.Call.TheVariants as calls;
 ghost use Rattle.call_parts.specs.Calls.{IsServing};
 ghost use Rattle.address_calls.specs.Answers.{MayGuard};
+ghost use Rattle.address_calls.specs.Tagged.{KnowsTag};
 ghost use Rattle.heap_now.specs.Calls.{IsReady, EndsWith, ServesWith};
+ghost use Rattle.heap_now.specs.Tagged.{TakesNoLock, IsSeenTagged};
 ghost use Rattle.heap_now.specs.Words.{size_answer, free_answer, get_answer, put_answer};
 
 use crate::frame::{enter_call, leave_call};
@@ -17,7 +19,8 @@ use heap_model::{Call, FreeNo, WordNo};
 fn find_size(heap: &Heap<State>, c: &mut Caller<State>, addr: u64) -> Result<u64, FreeNo>
     requires table { (c.old.table ≡ heap.now.table) × (c.old.opening ≡ heap.now.opening) }
     requires serving { IsServing c.old (calls.Size addr) [] }
-    ensures { ServesWith (MayGuard heap.now.opening.limits addr) c.old c.new (calls.Size addr) (size_answer result) }
+    ensures serves { ServesWith (MayGuard heap.now.opening.limits addr) c.old c.new (calls.Size addr) (size_answer result) }
+    ensures tagged { KnowsTag c.old addr → TakesNoLock c.old c.new (size_answer result) }
 {
     match measure(heap, c, addr) {
         Ok(Some(size)) => Ok(size),
@@ -31,7 +34,8 @@ fn find_size(heap: &Heap<State>, c: &mut Caller<State>, addr: u64) -> Result<u64
 pub fn size_now(heap: &Heap<State>, c: &mut Caller<State>, addr: u64) -> Result<u64, FreeNo>
     requires table { (c.old.table ≡ heap.now.table) × (c.old.opening ≡ heap.now.opening) }
     requires ready { IsReady c.old }
-    ensures { EndsWith (MayGuard heap.now.opening.limits addr) c.old c.new (calls.Size addr) (size_answer result) }
+    ensures ends { EndsWith (MayGuard heap.now.opening.limits addr) c.old c.new (calls.Size addr) (size_answer result) }
+    ensures tagged { IsSeenTagged c.old c.new addr → TakesNoLock c.old c.new (size_answer result) }
 {
     if let Err(busy) = enter_call(heap, c, Call::Size { addr }) {
         return Err(FreeNo::Busy(busy));
@@ -45,7 +49,8 @@ pub fn size_now(heap: &Heap<State>, c: &mut Caller<State>, addr: u64) -> Result<
 fn drop_there(heap: &Heap<State>, c: &mut Caller<State>, addr: u64) -> Result<(), FreeNo>
     requires table { (c.old.table ≡ heap.now.table) × (c.old.opening ≡ heap.now.opening) }
     requires serving { IsServing c.old (calls.Free addr) [] }
-    ensures { ServesWith (MayGuard heap.now.opening.limits addr) c.old c.new (calls.Free addr) (free_answer result) }
+    ensures serves { ServesWith (MayGuard heap.now.opening.limits addr) c.old c.new (calls.Free addr) (free_answer result) }
+    ensures tagged { KnowsTag c.old addr → TakesNoLock c.old c.new (free_answer result) }
 {
     match drop_block(heap, c, addr) {
         Ok(true) => Ok(()),
@@ -59,7 +64,8 @@ fn drop_there(heap: &Heap<State>, c: &mut Caller<State>, addr: u64) -> Result<()
 pub fn free_now(heap: &Heap<State>, c: &mut Caller<State>, addr: u64) -> Result<(), FreeNo>
     requires table { (c.old.table ≡ heap.now.table) × (c.old.opening ≡ heap.now.opening) }
     requires ready { IsReady c.old }
-    ensures { EndsWith (MayGuard heap.now.opening.limits addr) c.old c.new (calls.Free addr) (free_answer result) }
+    ensures ends { EndsWith (MayGuard heap.now.opening.limits addr) c.old c.new (calls.Free addr) (free_answer result) }
+    ensures tagged { IsSeenTagged c.old c.new addr → TakesNoLock c.old c.new (free_answer result) }
 {
     if let Err(busy) = enter_call(heap, c, Call::Free { addr }) {
         return Err(FreeNo::Busy(busy));
@@ -78,7 +84,8 @@ fn find_word(
 ) -> Result<u64, WordNo>
     requires table { (c.old.table ≡ heap.now.table) × (c.old.opening ≡ heap.now.opening) }
     requires serving { IsServing c.old (calls.Get addr index) [] }
-    ensures { ServesWith (MayGuard heap.now.opening.limits addr) c.old c.new (calls.Get addr index) (get_answer result) }
+    ensures serves { ServesWith (MayGuard heap.now.opening.limits addr) c.old c.new (calls.Get addr index) (get_answer result) }
+    ensures tagged { KnowsTag c.old addr → TakesNoLock c.old c.new (get_answer result) }
 {
     match measure(heap, c, addr) {
         Ok(Some(size)) => load_of(heap, c, addr, index, size),
@@ -97,7 +104,8 @@ pub fn get_now(
 ) -> Result<u64, WordNo>
     requires table { (c.old.table ≡ heap.now.table) × (c.old.opening ≡ heap.now.opening) }
     requires ready { IsReady c.old }
-    ensures { EndsWith (MayGuard heap.now.opening.limits addr) c.old c.new (calls.Get addr index) (get_answer result) }
+    ensures ends { EndsWith (MayGuard heap.now.opening.limits addr) c.old c.new (calls.Get addr index) (get_answer result) }
+    ensures tagged { IsSeenTagged c.old c.new addr → TakesNoLock c.old c.new (get_answer result) }
 {
     if let Err(busy) = enter_call(heap, c, Call::Get { addr, index }) {
         return Err(WordNo::Busy(busy));
@@ -117,7 +125,8 @@ fn put_word(
 ) -> Result<(), WordNo>
     requires table { (c.old.table ≡ heap.now.table) × (c.old.opening ≡ heap.now.opening) }
     requires serving { IsServing c.old (calls.Put addr index value) [] }
-    ensures { ServesWith (MayGuard heap.now.opening.limits addr) c.old c.new (calls.Put addr index value) (put_answer result) }
+    ensures serves { ServesWith (MayGuard heap.now.opening.limits addr) c.old c.new (calls.Put addr index value) (put_answer result) }
+    ensures tagged { KnowsTag c.old addr → TakesNoLock c.old c.new (put_answer result) }
 {
     match measure(heap, c, addr) {
         Ok(Some(size)) => store_of(heap, c, addr, index, size, value),
@@ -136,7 +145,8 @@ pub fn put_now(
 ) -> Result<(), WordNo>
     requires table { (c.old.table ≡ heap.now.table) × (c.old.opening ≡ heap.now.opening) }
     requires ready { IsReady c.old }
-    ensures { EndsWith (MayGuard heap.now.opening.limits addr) c.old c.new (calls.Put addr index value) (put_answer result) }
+    ensures ends { EndsWith (MayGuard heap.now.opening.limits addr) c.old c.new (calls.Put addr index value) (put_answer result) }
+    ensures tagged { IsSeenTagged c.old c.new addr → TakesNoLock c.old c.new (put_answer result) }
 {
     if let Err(busy) = enter_call(heap, c, Call::Put { addr, index, value }) {
         return Err(WordNo::Busy(busy));

@@ -4,7 +4,10 @@ ghost use Rattle.heap_model.specs.declared.Call.{Call as ACall};
 ghost use Rattle.heap_model.specs.declared.What.TheVariants as whats;
 ghost use Rattle.heap_model.specs.Legal.{is_lock_or_compact};
 ghost use Rattle.call_parts.specs.Calls.{IsInside};
+ghost use Rattle.heap_model.specs.Shape.{WasBusy};
+ghost use Rattle.small_calls.specs.Late.{TriesNeither};
 ghost use Rattle.heap_now.specs.Calls.{IsReady, HasBegun, HasGone, GetsBusy};
+ghost use Rattle.heap_now.specs.Tagged.{TakesNoLock};
 
 use call_parts::State;
 use heap_gate::{Caller, Heap, begin, enter_now, leave};
@@ -18,6 +21,8 @@ pub(crate) fn enter_call(heap: &Heap<State>, c: &mut Caller<State>, call: Call) 
     ensures table { (c.new.table ≡ c.old.table) × (c.new.opening ≡ c.old.opening) }
     ensures entered { OnOk result (HasBegun c.old c.new call) }
     ensures busy { IfErr result (λ b. GetsBusy c.old c.new call b × (b.what ≡ whats.Gate)) }
+    ensures turned { IfErr result (λ b. TakesNoLock c.old c.new (WasBusy b)) }
+    ensures neither { IfErr result (λ b. TriesNeither c.old c.new) }
 {
     begin(c, call);
     enter_now(heap, c)

@@ -15,7 +15,9 @@ mod tests;
 mod words;
 
 pub use address::{free_now, get_now, put_now, size_now};
+pub use alloc::alloc_now;
 pub use call_parts::State;
+pub use compact_calls::compact as compact_now;
 pub use locks::{lock_now, unlock_now};
 pub use open::open_heap;
 

@@ -1,4 +1,4 @@
-use Rattle.std.proofs.Common.{◌≡◌, ◌≤◌, refl, arith}
+use Rattle.std.proofs.Common.{refl, arith}
 use Rattle.heap_model.specs.declared.What.TheVariants as whats
 use Rattle.heap_now.proofs.Allocs.{placed_with}
 use Rattle.heap_now.proofs.alloc.place_big.Goals as goal

@@ -1,7 +1,6 @@
-use Rattle.std.proofs.Common.{◌≡◌, ◌<◌, ◌&&◌, false, [], ◌∷◌, ◌++◌, length, ℕ, refl, sym, subst, ap, ◌∙◌, arith}
+use Rattle.std.proofs.Common.{◌≡◌, ◌&&◌, [], ◌∷◌, ◌++◌, length, subst, ap, ◌∙◌, arith}
 use Rattle.heap_model.specs.declared.Act.TheVariants as acts
 use Rattle.heap_model.specs.declared.Call.TheVariants as calls
-use Rattle.heap_model.specs.declared.Entry.{Entry}
 use Rattle.heap_model.specs.declared.What.TheVariants as whats
 use Rattle.heap_model.specs.Legal.{is_lock_or_compact}
 use Rattle.heap_model.specs.Stay.{for_some}
@@ -10,7 +9,12 @@ use Rattle.heap_gate.specs.Token.{Token}
 use Rattle.heap_gate.specs.Calls.{HasEntered, HasTurnedBack, begins, begun_with, stance}
 use Rattle.heap_gate.proofs.Begun.{on_ok, if_err}
 use Rattle.heap_now.specs.Calls.{HasBegun, GetsBusy}
+use Rattle.small_calls.specs.Late.{TriesNeither}
 use Rattle.heap_now.proofs.Frames.{has_begun, has_turned, same_table}
+use Rattle.heap_model.specs.Shape.{WasBusy}
+use Rattle.heap_now.specs.Tagged.{TakesNoLock}
+use Rattle.heap_now.proofs.TaggedCalls.{free_turn}
+use Rattle.heap_now.proofs.LateAllocs.{turned_neither}
 use Rattle.heap_now.proofs.frame.enter_call.Goals as goal
 
 pub begin-requires-clause-room : goal.begin-requires-clause-room
@@ -51,3 +55,21 @@ returns-clause-busy c =
 
 pub returns-clause-table : goal.returns-clause-table
 returns-clause-table c = same_table c.args.c.now c.enter_now.new.c c.args.call c.enter_now.result (returns-clause-entered c) (returns-clause-busy c)
+
+pub returns-clause-turned : goal.returns-clause-turned
+returns-clause-turned c =
+    let old = c.args.c.now in let new = c.enter_now.new.c in let b = c.begin.new.c in
+    if_err c.enter_now.result
+    (λ e. HasTurnedBack b new (stance (begun_with b calls.Stay)) e.what e.word (begins b calls.Stay ++ entry b.number (acts.Blocked whats.Gate e.word) ∷ entry b.number acts.Leave ∷ []))
+    (λ e. TakesNoLock old new (WasBusy e))
+    (λ e x. free_turn old new c.args.call e
+    (subst (λ (t : Token). HasTurnedBack t new (stance (begun_with t calls.Stay)) e.what e.word (begins t calls.Stay ++ entry t.number (acts.Blocked whats.Gate e.word) ∷ entry t.number acts.Leave ∷ [])) c.begin.ensures x)) c.enter_now.ensures.busy
+
+pub returns-clause-neither : goal.returns-clause-neither
+returns-clause-neither c =
+    let old = c.args.c.now in let new = c.enter_now.new.c in let b = c.begin.new.c in
+    if_err c.enter_now.result
+    (λ e. HasTurnedBack b new (stance (begun_with b calls.Stay)) e.what e.word (begins b calls.Stay ++ entry b.number (acts.Blocked whats.Gate e.word) ∷ entry b.number acts.Leave ∷ []))
+    (λ e. TriesNeither old new)
+    (λ e x. turned_neither old new c.args.call e
+    (subst (λ (t : Token). HasTurnedBack t new (stance (begun_with t calls.Stay)) e.what e.word (begins t calls.Stay ++ entry t.number (acts.Blocked whats.Gate e.word) ∷ entry t.number acts.Leave ∷ [])) c.begin.ensures x)) c.enter_now.ensures.busy

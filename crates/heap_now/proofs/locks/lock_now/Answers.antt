@@ -1,4 +1,4 @@
-use Rattle.std.proofs.Common.{◌≡◌, ◌||◌, not, Bool, true, ap}
+use Rattle.std.proofs.Common.{◌||◌, not, Bool, ap}
 use Rattle.heap_model.specs.Legal.{is_lock_or_compact}
 use Rattle.heap_model.specs.Stay.{for_some}
 use Rattle.heap_gate.specs.Calls.{IsDeeper, IsRefusedLock}

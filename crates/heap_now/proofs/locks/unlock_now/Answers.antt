@@ -1,8 +1,3 @@
-use Rattle.std.proofs.Common.{◌≡◌, ◌∙◌, sym}
-use Rattle.heap_gate.specs.Calls.{IsShallower}
-use Rattle.heap_gate.proofs.Begun.{on_ok}
-use Rattle.heap_now.specs.Locks.{IsLockedLess}
-use Rattle.heap_now.proofs.Locking.{unlocked_more}
 use Rattle.heap_now.proofs.locks.unlock_now.Goals as goal
 
 pub unlock_gate-requires-clause-outside : goal.unlock_gate-requires-clause-outside
