@@ -1,8 +1,5 @@
 //! What the variable-size layer does for a bucket that the front end cannot serve, under both locks.
-ghost use Rattle.std.specs.Prelude.{◌≡◌, ◌≤◌, None, is_some, true, IfSome, IfNone};
-ghost use Rattle.heap_model.specs.Backend.{back_place};
-ghost use Rattle.heap_model.specs.Geometry.{span_pages_of};
-ghost use Rattle.backend_fit.specs.Kept.{area_of};
+ghost use Rattle.std.specs.Prelude.{◌≡◌, Bool, None, is_some, true, IfSome, IfNone};
 ghost use Rattle.vs_layer.specs.Kept.{place_for};
 ghost use Rattle.vs_calls.specs.Parts.{HasPlaced, Places, Refuses};
 ghost use Rattle.fall_calls.specs.Falls.{FallsToVs, HasNoRoom};
@@ -44,11 +41,10 @@ pub fn refuse_behind(
     vs: Vs,
     back: Back,
     n: u64,
-    zero: bool,
     vs_last: bool,
 )
     requires table { c.old.table ≡ heap.now.table }
-    requires falls { FallsToVs c.old vs back n zero vs_last }
+    requires falls { (zero : Bool) × FallsToVs c.old vs back n zero vs_last }
     requires no_room { HasNoRoom vs back n }
     ensures { Refuses c.old c.new }
 {
@@ -77,7 +73,7 @@ fn place_in_span(
     c.check();
     let _region = back.region();
     let Some(addr) = hold_in_new_span(c, &mut vs, &mut back, n) else {
-        refuse_behind(heap, c, vs, back, n, zero, vs_last);
+        refuse_behind(heap, c, vs, back, n, vs_last);
         return None;
     };
     hand_over_two(heap, c, vs, back, addr, n, zero, vs_last);

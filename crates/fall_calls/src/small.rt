@@ -1,11 +1,11 @@
 //! Allocations of at most 131,072 bytes.
-ghost use Rattle.std.specs.Prelude.{◌≡◌, ◌≤◌, List, IfOk, IfErr, IfSome, IfNone};
+ghost use Rattle.std.specs.Prelude.{◌≡◌, ◌≤◌, List, IfOk, IfErr};
 ghost use Rattle.heap_model.specs.declared.Act.{Act};
 ghost use Rattle.heap_gate.specs.Token.{Token};
 ghost use Rattle.call_parts.specs.Calls.{GoesOn};
 ghost use Rattle.paged_calls.specs.Parts.{IsAllocating, Places};
 ghost use Rattle.small_calls.specs.Late.{IsLate};
-ghost use Rattle.fall_calls.specs.Falls.{IsFallen, IsRefusedBehind, IsRefused};
+ghost use Rattle.fall_calls.specs.Falls.{IsFallen, IsRefused};
 
 use crate::behind::place_behind;
 use backend_fit::Back;

@@ -44,7 +44,7 @@ refuse_behind-requires-clause-table c = ap (λ (k : Token). k.table) c.in_defaul
 
 pub refuse_behind-requires-clause-falls : goal.refuse_behind-requires-clause-falls
 refuse_behind-requires-clause-falls c =
-    falls_still c.args.c.now c.hold_in_new_span.new.c c.args.vs c.hold_in_new_span.new.vs c.args.back c.hold_in_new_span.new.back c.args.n c.in_default.ensures.none c.args.zero c.args.vs_last c.requires.falls
+    (c.args.zero, falls_still c.args.c.now c.hold_in_new_span.new.c c.args.vs c.hold_in_new_span.new.vs c.args.back c.hold_in_new_span.new.back c.args.n c.in_default.ensures.none c.args.zero c.args.vs_last c.requires.falls)
 
 pub refuse_behind-requires-clause-no_room : goal.refuse_behind-requires-clause-no_room
 refuse_behind-requires-clause-no_room c =
