@@ -1,16 +1,13 @@
 -- A new block in hand is zeroed and given.
-use Rattle.std.proofs.Common.{◌≡◌, ◌≢◌, ℕ, zero, suc, ◌+◌, ◌/◌, ◌<◌, ◌≤◌, ◌==◌, Bool, true, false, not, ◌&&◌, ◌||◌, List, [], ◌∷◌, ◌++◌, length, Option, Some, None, refl, sym, ap, ◌∙◌, subst, arith, eq-eqb, inl, inr}
-use Rattle.std.specs.Prelude.{is_some, nat_eq}
+use Rattle.std.proofs.Common.{◌≡◌, ◌≢◌, ℕ, zero, suc, ◌+◌, ◌/◌, ◌≤◌, ◌==◌, Bool, true, false, not, ◌&&◌, ◌||◌, List, [], ◌∷◌, ◌++◌, length, Option, Some, refl, sym, ap, ◌∙◌, subst, arith, eq-eqb, inl, inr}
+use Rattle.std.specs.Prelude.{is_some}
 use Rattle.std.specs.List.{find}
 use Rattle.std.proofs.lemmas.Bool.{cases_Bool, and_from, and_right}
 use Rattle.std.proofs.lemmas.List.{append-nil}
 use Rattle.heap_model.specs.declared.Act.{Act}
 use Rattle.heap_model.specs.declared.Act.TheVariants as acts
-use Rattle.heap_model.specs.declared.Call.{Call}
-use Rattle.heap_model.specs.declared.Entry.{Entry}
 use Rattle.heap_model.specs.declared.Layer.{Layer}
 use Rattle.heap_model.specs.declared.Layer.TheVariants as layers
-use Rattle.heap_model.specs.declared.Opening.{Opening}
 use Rattle.heap_model.specs.declared.What.{What}
 use Rattle.heap_model.specs.declared.What.TheVariants as whats
 use Rattle.heap_model.specs.Geometry.{words_of}
@@ -19,13 +16,13 @@ use Rattle.heap_model.specs.Ranges.{vs_spans}
 use Rattle.heap_model.specs.State.{Setting, State, BackPart, VsPart, Place, Live, InHand, hands, hand_at, in_hand, places_of, holds, is_layer, address, has_address, is_hand_at, is_in_hand_of, is_entered, change_found}
 use Rattle.heap_model.specs.Stay.{for_some}
 use Rattle.heap_model.specs.CallState.{Configuration, Nothing, caller_view}
-use Rattle.heap_model.specs.Legal.{may_follow, after, meets_demand, may_touch, suits, with_status, with_places, layer_of}
+use Rattle.heap_model.specs.Legal.{after, meets_demand, may_touch, suits, with_status, with_places, layer_of}
 use Rattle.heap_model.specs.History.{configuration_after}
 use Rattle.heap_model.specs.Agreement.{AgreesFor}
 use Rattle.claim_rule.specs.Entries.{IsSettingOf, entry, is_of_lfh, may_prepare}
 use Rattle.heap_gate.specs.Token.{Token, Always, now, IsStanding, is_out}
-use Rattle.heap_gate.specs.Calls.{with_prepared, rested, HasRested, Runs, Stands, stance}
-use Rattle.data_words.specs.Clears.{clears, IsCleared}
+use Rattle.heap_gate.specs.Calls.{with_prepared, rested, HasRested}
+use Rattle.data_words.specs.Clears.{clears}
 use Rattle.call_parts.proofs.Joining.{setting_before}
 use Rattle.call_parts.specs.Entries.{holding, HasNew, Zeroes, HasAdded, IsGiven, HasHandedOver}
 use Rattle.call_parts.proofs.Tokens.{now_more, prepares, added_none, added_runs, added_one, added_rested, added_then}

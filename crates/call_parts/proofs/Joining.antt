@@ -1,14 +1,12 @@
 -- What a caller has added, one part behind another.
-use Rattle.std.proofs.Common.{◌≡◌, ℕ, Bool, true, false, List, [], ◌∷◌, ◌++◌, refl, sym, ap, ◌∙◌, subst, append_assoc}
+use Rattle.std.proofs.Common.{◌≡◌, ℕ, true, List, [], ◌∷◌, ◌++◌, refl, sym, ap, ◌∙◌, subst, append_assoc}
 use Rattle.std.proofs.lemmas.List.{append-nil}
-use mathlib.Core.List.{IsPrefix}
 use Rattle.heap_model.specs.declared.Act.{Act}
-use Rattle.heap_model.specs.declared.Act.TheVariants as acts
 use Rattle.heap_model.specs.declared.Entry.{Entry}
 use Rattle.heap_model.specs.declared.Opening.{Opening}
 use Rattle.heap_model.specs.State.{Setting}
 use Rattle.heap_model.specs.CallState.{CallState}
-use Rattle.heap_model.specs.History.{own, configuration_of, configuration_after, first_configuration, no_call}
+use Rattle.heap_model.specs.History.{own, first_configuration, no_call}
 use Rattle.call_laws.specs.Within.{by_all}
 use Rattle.claim_rule.specs.Entries.{IsSettingOf, entry, is_by}
 use Rattle.claim_rule.proofs.Lists.{prefix_self, prefix_trans, own-append, own_by, after-append, setting_less}

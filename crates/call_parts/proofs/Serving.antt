@@ -1,5 +1,5 @@
 -- A call from its Begin to its answer.
-use Rattle.std.proofs.Common.{◌≡◌, ℕ, Bool, true, false, not, cond, ◌&&◌, List, [], ◌∷◌, ◌++◌, Option, Some, None, refl, sym, ap, ◌∙◌, subst}
+use Rattle.std.proofs.Common.{◌≡◌, ℕ, Bool, true, false, not, cond, List, [], ◌∷◌, ◌++◌, Some, refl, sym, ap, ◌∙◌, subst}
 use Rattle.std.specs.List.{list_all}
 use Rattle.std.proofs.lemmas.List.{append-nil}
 use Rattle.std.proofs.lemmas.Bool.{and_from, and_parts}
@@ -8,16 +8,16 @@ use Rattle.heap_model.specs.declared.Act.TheVariants as acts
 use Rattle.heap_model.specs.declared.Call.{Call}
 use Rattle.heap_model.specs.declared.Entry.{Entry}
 use Rattle.heap_model.specs.State.{Setting}
-use Rattle.heap_model.specs.CallState.{CallState, Configuration, not_begun}
+use Rattle.heap_model.specs.CallState.{CallState}
 use Rattle.heap_model.specs.Legal.{is_begin, call_after}
 use Rattle.heap_model.specs.History.{own, configuration_of}
 use Rattle.heap_model.specs.Shape.{Answer, HasActs, shape_of, is_left_out}
 use Rattle.call_laws.specs.Within.{by_all, IsWithin}
 use Rattle.call_laws.proofs.Told.{own_acts_answer}
-use Rattle.claim_rule.specs.Entries.{IsSettingOf, IsLegalWith, entry}
+use Rattle.claim_rule.specs.Entries.{IsLegalWith}
 use Rattle.claim_rule.proofs.Lists.{own-append}
 use Rattle.heap_gate.specs.Token.{Token, Always, now, IsStanding}
-use Rattle.call_parts.specs.Calls.{IsReadyToCall, GoesOn, Answers, IsNew, Makes, Brings, all_own}
+use Rattle.call_parts.specs.Calls.{IsReadyToCall, GoesOn, Answers, IsNew, Brings}
 use Rattle.call_parts.proofs.Own.{call_from}
 use Rattle.call_parts.proofs.Joining.{goes_then, called_since, setting_before}
 

@@ -1,10 +1,10 @@
 -- A live block of VS under its lock: where it is found, taken in hand, and dropped.
-use Rattle.std.proofs.Common.{◌≡◌, ℕ, ◌==◌, Bool, true, false, ◌&&◌, cond, List, [], ◌∷◌, ◌++◌, Option, Some, None, refl, sym, ap, ◌∙◌, subst, eq-eqb, inl, inr}
+use Rattle.std.proofs.Common.{◌≡◌, ℕ, true, false, List, [], ◌∷◌, ◌++◌, Some, refl, ap, ◌∙◌, eq-eqb, inl, inr}
 use Rattle.std.specs.Prelude.{is_some}
 use Rattle.std.specs.List.{find}
-use Rattle.std.proofs.lemmas.Bool.{cases_Bool, and_from, and_right, both_ways}
+use Rattle.std.proofs.lemmas.Bool.{cases_Bool}
 use Rattle.heap_model.specs.declared.What.TheVariants as whats
-use Rattle.heap_model.specs.State.{State, Place, Live, InHand, address, has_address, is_live, is_live_at, is_hand_at, is_in_hand_of, in_hand, hands, holds, guarded, exclusive_places, all_places, place_at, hand_at, change_found, remove_found}
+use Rattle.heap_model.specs.State.{State, Place, InHand, has_address, is_live, is_live_at, is_hand_at, is_in_hand_of, in_hand, hands, holds, guarded, exclusive_places, all_places, place_at, change_found, remove_found}
 use Rattle.heap_model.specs.Legal.{with_status}
 use Rattle.heap_model.proofs.Stable.{find-gate}
 

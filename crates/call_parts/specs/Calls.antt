@@ -1,5 +1,5 @@
 -- One call of a caller: what it has added since it began, how it is answered, and where the caller stands.
-use Rattle.std.specs.Prelude.{◌≡◌, ◌≢◌, ℕ, ◌+◌, Bool, true, false, not, List, [], ◌∷◌, ◌++◌, Option, Some}
+use Rattle.std.specs.Prelude.{◌≡◌, ◌≢◌, ℕ, ◌+◌, true, false, not, List, [], ◌∷◌, ◌++◌, Some}
 use Rattle.std.specs.List.{list_all}
 use mathlib.Core.List.{IsPrefix}
 use Rattle.heap_model.specs.declared.Act.{Act}
@@ -9,15 +9,14 @@ use Rattle.heap_model.specs.declared.Call.{Call}
 use Rattle.heap_model.specs.declared.Entry.{Entry}
 use Rattle.heap_model.specs.declared.What.{What}
 use Rattle.heap_model.specs.declared.What.TheVariants as whats
-use Rattle.heap_model.specs.State.{Setting}
-use Rattle.heap_model.specs.CallState.{CallState, not_begun, Search}
-use Rattle.heap_model.specs.Legal.{is_begin, call_after}
+use Rattle.heap_model.specs.CallState.{CallState, not_begun}
+use Rattle.heap_model.specs.Legal.{is_begin}
 use Rattle.heap_model.specs.History.{own, configuration_of}
 use Rattle.heap_model.specs.Moments.{moments}
-use Rattle.heap_model.specs.Shape.{Answer, WasBusy, HasActs, shape_of}
+use Rattle.heap_model.specs.Shape.{Answer, HasActs, shape_of}
 use Rattle.heap_model.specs.Served.{IsAnswered}
 use Rattle.call_laws.specs.Within.{by_all}
-use Rattle.claim_rule.specs.Entries.{IsLegalWith, entry}
+use Rattle.claim_rule.specs.Entries.{IsLegalWith}
 use Rattle.heap_model.specs.Layers.{StandsForVs, StandsForBack, StandsForLarge}
 use Rattle.claim_rule.specs.Places.{vs_slot, back_slot, large_slot}
 use Rattle.backend_fit.specs.Kept.{Kept}

@@ -1,5 +1,5 @@
 //! The entries that a part prepares, and the block that it has in hand.
-ghost use Rattle.std.specs.Prelude.{◌≡◌, ◌+◌, ◌*◌, ◌/◌, ◌<◌, ◌≤◌, [], true, length, ℕ};
+ghost use Rattle.std.specs.Prelude.{◌≡◌, ◌+◌, ◌*◌, ◌/◌, ◌<◌, ◌≤◌, [], true, length};
 ghost use Rattle.heap_model.specs.Geometry.{words_of};
 ghost use Rattle.claim_rule.specs.Entries.{are_prepared};
 ghost use Rattle.claim_rule.specs.Places.{data_count};

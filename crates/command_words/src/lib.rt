@@ -9,7 +9,7 @@ mod setting;
 #[cfg(test)]
 mod tests;
 
-ghost use Rattle.std.specs.Prelude.{◌≡◌, IfOk, IfSome, IfNone, map, string_bytes};
+ghost use Rattle.std.specs.Prelude.{IfOk, IfSome, IfNone, map, string_bytes};
 ghost use Rattle.command_words.specs.declared.setting.Setting.{Setting};
 ghost use Rattle.command_words.specs.Settings.{AreWords};
 

@@ -12,7 +12,7 @@ use Rattle.heap_model.specs.declared.Kind.TheVariants as kinds
 use Rattle.heap_model.specs.declared.LockNo.TheVariants as lock_nos
 use Rattle.heap_model.specs.declared.What.{What}
 use Rattle.heap_model.specs.declared.What.TheVariants as whats
-use Rattle.heap_model.specs.State.{Setting, Area, Span, Place, is_caller}
+use Rattle.heap_model.specs.State.{Area, Span, Place}
 use Rattle.heap_model.specs.Legal.{are_used, is_compact, after}
 use Rattle.heap_model.specs.Stay.{for_some}
 use Rattle.heap_model.specs.Agreement.{SameHeap}

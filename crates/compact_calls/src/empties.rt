@@ -1,5 +1,5 @@
 //! Subsegments of the front end without a block, given back under the lock of the back end.
-ghost use Rattle.std.specs.Prelude.{◌≡◌, ◌*◌, ◌+◌, ◌<◌, ◌∷◌, [], true, not, List, ℕ};
+ghost use Rattle.std.specs.Prelude.{◌≡◌, ◌*◌, ◌+◌, ◌<◌, ◌∷◌, [], true, List, ℕ};
 ghost use Rattle.heap_model.specs.declared.Call.TheVariants as calls;
 ghost use Rattle.heap_model.specs.declared.Kind.TheVariants as kinds;
 ghost use Rattle.heap_model.specs.Geometry.{page_bytes};
@@ -10,7 +10,6 @@ ghost use Rattle.heap_model.specs.Legal.{are_used};
 ghost use Rattle.claim_rule.specs.Places.{back_slot};
 ghost use Rattle.heap_gate.specs.Token.{Always, now};
 ghost use Rattle.backend_fit.specs.Kept.{area_of};
-ghost use Rattle.backend_fit.specs.Sound.{IsSound};
 ghost use Rattle.lfh_spans.specs.Subsegments.{IsBackOf};
 ghost use Rattle.compact_calls.specs.Owner.{IsOwning, Did};
 ghost use Rattle.compact_calls.specs.Empties.{Looked, ShowsBits, HasBlocks, AreUsedBelow, unspans};

@@ -1,5 +1,5 @@
 //! Pages that no span has, decommitted under the lock of the back end.
-ghost use Rattle.std.specs.Prelude.{◌≡◌, ◌+◌, ◌*◌, ◌∷◌, [], true, length, ℕ};
+ghost use Rattle.std.specs.Prelude.{◌≡◌, ◌+◌, ◌*◌, ◌∷◌, [], true, length};
 ghost use Rattle.heap_model.specs.declared.Act.TheVariants.{Decommit};
 ghost use Rattle.heap_model.specs.declared.Call.TheVariants as calls;
 ghost use Rattle.heap_model.specs.Agreement.{SameHeap};

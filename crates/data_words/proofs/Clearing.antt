@@ -8,7 +8,7 @@ use Rattle.claim_rule.specs.Entries.{entry}
 use Rattle.heap_gate.specs.Token.{Token}
 use Rattle.heap_gate.specs.Calls.{Runs, Stands, stance}
 use Rattle.data_words.specs.Clears.{clears, IsCleared}
-use Rattle.data_words.proofs.Copying.{AreData, none, store, runs_then, stands_then}
+use Rattle.data_words.proofs.Copying.{none, store, runs_then, stands_then}
 
 -- one word more at the end
 zeros_next : (word count : ℕ) → zeros true word (suc count) ≡ zeros true word count ++ acts.Store (word + count) 0 ∷ []

@@ -1,10 +1,9 @@
 //! What is given under the locks of the variable-size layer and of the back end, and the locks themselves, in either order.
-ghost use Rattle.std.specs.Prelude.{◌≡◌, ◌++◌, ◌∷◌, [], true, is_some};
+ghost use Rattle.std.specs.Prelude.{◌≡◌, ◌++◌, ◌∷◌, [], true};
 ghost use Rattle.heap_model.specs.declared.Act.TheVariants.{Give, GiveLock};
 ghost use Rattle.heap_model.specs.declared.What.TheVariants as whats;
 ghost use Rattle.heap_model.specs.Shape.{zeroing};
 ghost use Rattle.call_parts.specs.Entries.{HasEnded};
-ghost use Rattle.vs_calls.specs.Blocks.{size_at};
 ghost use Rattle.fall_calls.specs.Both.{HasTwo, HasBlock, gives};
 
 use backend_fit::Back;

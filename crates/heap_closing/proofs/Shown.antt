@@ -27,7 +27,7 @@ use Rattle.page_ranges.specs.Words.{runs_of}
 use Rattle.page_ranges.specs.Ranges.{AreRuns, IsMark, HasRoom}
 use Rattle.page_ranges.specs.Spans.{is_of_span, span_of, taken_runs}
 use Rattle.page_ranges.proofs.Blocks.{taken_rise}
-use Rattle.backend_fit.specs.Kept.{Kept, area_of, spans_of as runs_kept, pages_in, is_block_run, is_block_at}
+use Rattle.backend_fit.specs.Kept.{Kept, area_of, spans_of as runs_kept, pages_in, is_block_run}
 use Rattle.backend_fit.specs.Kept as backs
 use Rattle.backend_fit.specs.Effects.{place_of}
 use Rattle.backend_fit.specs.Sound.{IsSound}

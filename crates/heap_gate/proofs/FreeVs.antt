@@ -1,5 +1,5 @@
 -- While nobody holds the lock of VS each of its spans has a place: who gives it back leaves it so, and nobody else changes places or spans of VS.
-use Rattle.std.proofs.Common.{◌≡◌, ℕ, ◌+◌, ◌/◌, ◌==◌, Bool, true, false, not, ◌&&◌, List, [], ◌∷◌, ◌++◌, Option, Some, None, refl, sym, ap, ◌∙◌, subst, append_assoc, inl, inr}
+use Rattle.std.proofs.Common.{◌≡◌, ℕ, ◌+◌, ◌/◌, Bool, true, false, not, ◌&&◌, List, [], ◌∷◌, ◌++◌, Option, Some, None, refl, sym, ap, ◌∙◌, subst, append_assoc, inl, inr}
 use Rattle.std.specs.Prelude.{is_none}
 use Rattle.std.specs.List.{find, list_all}
 use Rattle.std.proofs.lemmas.Bool.{and_parts, cases_Bool, both_ways, false≢true}
@@ -13,12 +13,12 @@ use Rattle.heap_model.specs.declared.Layer.TheVariants as layers
 use Rattle.heap_model.specs.declared.What.{What}
 use Rattle.heap_model.specs.declared.What.TheVariants as whats
 use Rattle.heap_model.specs.Geometry.{page_bytes}
-use Rattle.heap_model.specs.State.{State, Setting, Area, Span, Place, Live, InHand, is_kind, is_layer, is_caller, change_found, remove_found, place_at, hand_at, is_hand_at, is_live_at, is_live_of}
-use Rattle.heap_model.specs.CallState.{Configuration, CallerView, caller_view, is_inside, held}
+use Rattle.heap_model.specs.State.{State, Setting, Span, Place, Live, InHand, is_kind, is_layer, is_caller, change_found, remove_found, place_at, hand_at, is_hand_at, is_live_at, is_live_of}
+use Rattle.heap_model.specs.CallState.{Configuration, CallerView, caller_view, is_inside}
 use Rattle.heap_model.specs.Ranges.{is_of_kind, vs_spans, gaps}
 use Rattle.heap_model.specs.Stay.{for_some}
 use Rattle.heap_model.specs.Search.{begins_at, span_at, request_of}
-use Rattle.heap_model.specs.Legal.{may, may_follow, after, on, layer_of, area_with, is_back_at, with_pages, may_touch, may_span_for, may_unspan_of, is_unused, has_place, places_in, with_status, resize_place, suits, may_give, may_take, may_drop, leaves_whole}
+use Rattle.heap_model.specs.Legal.{may, may_follow, after, on, layer_of, area_with, is_back_at, with_pages, may_touch, may_span_for, may_unspan_of, is_unused, has_place, places_in, with_status, resize_place, suits, leaves_whole}
 use Rattle.heap_model.specs.History.{configuration_after, configuration_of, first_configuration, may_all_follow}
 use Rattle.heap_model.proofs.GateSound.{row_of}
 use Rattle.heap_model.proofs.ListLemmas.{filter-insert_span, filter-change_found, filter-remove_found, for_some_parts}

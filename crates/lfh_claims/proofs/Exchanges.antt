@@ -22,7 +22,7 @@ use Rattle.claim_rule.specs.Rule.{ready_after}
 use Rattle.claim_rule.specs.Plays.{Goes, number_of}
 use Rattle.step_parts.specs.InHand.{IsInHand, HasBlock, IsBlockNumber}
 use Rattle.block_steps.proofs.InHandWords.{no_unspan}
-use Rattle.heap_gate.specs.Token.{IsCaller, Always, now}
+use Rattle.heap_gate.specs.Token.{IsCaller, now}
 use Rattle.heap_gate.specs.Seated.{Face, tok}
 use Rattle.heap_gate.specs.Calls.{Runs}
 use Rattle.heap_gate.proofs.Tokens.{Acted, faced, marks, with_left}

@@ -1,4 +1,4 @@
-ghost use Rattle.std.specs.Prelude.{◌≡◌, ◌+◌, ◌*◌, ◌<◌, false, true, IfOk};
+ghost use Rattle.std.specs.Prelude.{◌≡◌, ◌+◌, ◌<◌, false, true, IfOk};
 ghost use Rattle.heap_gate.specs.Counts.{IsSettled};
 ghost use Rattle.lfh_buckets.specs.Blocks.{IsBucket};
 

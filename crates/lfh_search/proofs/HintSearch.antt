@@ -9,7 +9,7 @@ use Rattle.heap_model.specs.Buckets.{words_in_use, block_address}
 use Rattle.heap_model.specs.Stay.{is_some_of}
 use Rattle.heap_model.specs.State.{holds}
 use Rattle.heap_model.specs.CallState.{Search, CallerView, not_begun, caller_view}
-use Rattle.heap_model.specs.Search.{SearchKey, spans_of, begins_at, hint, first_word, may_see, after_no_hint}
+use Rattle.heap_model.specs.Search.{spans_of, begins_at, hint, first_word, may_see, after_no_hint}
 use Rattle.heap_soundness.proofs.Lists.{any_in}
 use Rattle.heap_soundness.specs.Sound.{IsOneOf}
 use Rattle.search_laws.specs.Reading.{word_behind}

@@ -1,5 +1,5 @@
 //! The first pass of a search, without a lock.
-ghost use Rattle.std.specs.Prelude.{◌≡◌, ◌*◌, ◌<◌, true, false};
+ghost use Rattle.std.specs.Prelude.{◌≡◌, ◌<◌, true, false};
 ghost use Rattle.heap_model.specs.declared.What.TheVariants as whats;
 ghost use Rattle.heap_model.specs.CallState.{not_begun};
 ghost use Rattle.lfh_buckets.specs.Blocks.{IsBucket};

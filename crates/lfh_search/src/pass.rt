@@ -1,5 +1,5 @@
 //! A pass over all subsegments of a bucket and a slot, under the back end's lock.
-ghost use Rattle.std.specs.Prelude.{◌≡◌, ◌+◌, ◌*◌, ◌<◌, true};
+ghost use Rattle.std.specs.Prelude.{◌≡◌, ◌+◌, ◌<◌, true};
 ghost use Rattle.heap_model.specs.CallState.{Search};
 ghost use Rattle.lfh_claims.specs.Search.{own_slot};
 ghost use Rattle.lfh_search.specs.Courses.{IsCourse};

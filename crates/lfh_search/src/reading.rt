@@ -1,11 +1,8 @@
 //! The words of one subsegment, and the claims of blocks that they show free.
-ghost use Rattle.std.specs.Prelude.{◌≡◌, ◌+◌, ◌*◌, ◌<◌, ℕ, true, false};
+ghost use Rattle.std.specs.Prelude.{◌≡◌, ◌+◌, ◌*◌, ◌<◌, ℕ, true};
 ghost use Rattle.heap_model.specs.CallState.{Search};
-ghost use Rattle.search_laws.specs.Reading.{word_behind};
 ghost use Rattle.lfh_claims.specs.Search.{own_slot};
-ghost use Rattle.lfh_search.specs.Standing.{key};
 ghost use Rattle.lfh_search.specs.Courses.{IsCourse};
-ghost use Rattle.lfh_search.specs.Results.{IsIn};
 ghost use Rattle.lfh_search.specs.Readings.{AtWord, WordRead, CanRead, SubsegmentRead};
 
 use crate::course::{Course, behind};

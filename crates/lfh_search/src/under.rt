@@ -1,5 +1,5 @@
 //! The search of a caller that holds the back end's lock.
-ghost use Rattle.std.specs.Prelude.{◌≡◌, ◌+◌, ◌*◌, ◌<◌, [], true, false, IfSome, IfNone};
+ghost use Rattle.std.specs.Prelude.{◌≡◌, ◌<◌, [], true, false, IfSome, IfNone};
 ghost use Rattle.heap_model.specs.declared.What.TheVariants as whats;
 ghost use Rattle.heap_model.specs.CallState.{Search};
 ghost use Rattle.heap_gate.specs.Token.{is_out};

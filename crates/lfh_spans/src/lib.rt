@@ -10,7 +10,7 @@ mod search;
 mod steps;
 mod stores;
 
-ghost use Rattle.std.specs.Prelude.{◌≡◌, ◌+◌, ◌*◌, ◌<◌, ◌≤◌, ◌∷◌, [], true, false, length, IfSome, IfNone};
+ghost use Rattle.std.specs.Prelude.{◌≡◌, ◌<◌, ◌∷◌, [], true, false, length, IfSome, IfNone};
 ghost use Rattle.heap_model.specs.declared.Act.TheVariants.{NoSpan, Unspan};
 ghost use Rattle.heap_model.specs.declared.Kind.TheVariants as kinds;
 ghost use Rattle.heap_model.specs.declared.What.TheVariants as whats;

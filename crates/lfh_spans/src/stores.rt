@@ -1,18 +1,16 @@
 //! Steps of a caller on words of subsegments, each or all of a kind: a word looked at, tags stored and cleared, a subsegment made
 //! and given up.
-ghost use Rattle.std.specs.Prelude.{◌≡◌, ◌+◌, ◌*◌, ◌<◌, ◌≤◌, ◌∷◌, ◌++◌, [], true, false, length, Some, None, if◌then◌else◌, ◌==◌};
+ghost use Rattle.std.specs.Prelude.{◌≡◌, ◌+◌, ◌*◌, ◌<◌, ◌≤◌, ◌∷◌, [], true, false, length, Some, None, if◌then◌else◌, ◌==◌};
 ghost use Rattle.heap_model.specs.declared.Act.TheVariants.{Unspan};
 ghost use Rattle.heap_model.specs.declared.What.TheVariants as whats;
 ghost use Rattle.claim_rule.specs.Entries.{entry};
 ghost use Rattle.claim_rule.specs.Places.{hint_at, tag_at};
 ghost use Rattle.look_steps.specs.Looks.{IsHintWord, IsTagWord};
-ghost use Rattle.span_steps.specs.Installs.{MayInstall, owed_by_install, owed_tags};
+ghost use Rattle.span_steps.specs.Installs.{MayInstall, owed_tags};
 ghost use Rattle.span_steps.specs.Retires.{MayRetire, owed_by_retire};
 ghost use Rattle.span_steps.specs.Stores.{owed_zero, paid_off};
-ghost use Rattle.step_parts.specs.InHand.{HasBlock};
 ghost use Rattle.claim_rule.specs.Shown.{hint_word};
 ghost use Rattle.lfh_buckets.specs.Blocks.{IsBucket};
-ghost use Rattle.heap_model.specs.Buckets.{block_address, block_count};
 ghost use Rattle.heap_gate.specs.Token.{Always, now, is_out};
 ghost use Rattle.heap_gate.specs.Calls.{Runs, Stands as Standing, stance};
 ghost use Rattle.lfh_spans.specs.Stores.{AreTagged, HasMade, paid_tags, reserving_in};

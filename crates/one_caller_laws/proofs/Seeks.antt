@@ -7,7 +7,7 @@ use Rattle.heap_model.specs.Buckets.{words_in_use, valid_bits}
 use Rattle.heap_model.specs.Bits.{bits_of, pick}
 use Rattle.heap_model.specs.State.{Area, Span, Place}
 use Rattle.heap_model.specs.CallState.{Stage, AtHint, Search}
-use Rattle.heap_model.specs.Search.{SearchKey, first_word, next_word, next_span, last_read, span_at, spans_of, first_of, begins_at, is_read, onto_span, after_reading, after_pick, has_not_begun, hint, may_see_at, begins_search, begins_span, goes_on}
+use Rattle.heap_model.specs.Search.{SearchKey, first_word, next_span, last_read, span_at, spans_of, first_of, begins_at, is_read, after_reading, after_pick, has_not_begun}
 use Rattle.heap_soundness.specs.Sound.{IsOneOf, AreInOrder}
 use Rattle.search_laws.specs.Reading.{word_behind, picked_at}
 use Rattle.search_laws.proofs.Passes.{found_there}

@@ -16,7 +16,7 @@ use Rattle.heap_model.specs.Backend.{back_place}
 use Rattle.heap_model.specs.Ranges.{gaps, vs_place, is_of_kind}
 use Rattle.heap_model.specs.Stay.{for_some}
 use Rattle.heap_model.specs.CallState.{Configuration, Nothing, caller_view}
-use Rattle.heap_model.specs.Search.{request_of, asked_by, hint, hint_or, first_of, spans_of, is_span_of}
+use Rattle.heap_model.specs.Search.{request_of, asked_by, hint, hint_or, first_of, is_span_of}
 use Rattle.heap_model.specs.Legal.{after, lies_in, has_place, is_layer_of, with_span}
 use Rattle.heap_model.specs.Alone.{by_zero, configuration_by}
 use Rattle.heap_model.specs.Shape.{shape_of}

@@ -1,5 +1,5 @@
 -- A block of the back end is taken and dropped, with its span, by the holder of the locks of VS and of the back end.
-use Rattle.std.proofs.Common.{◌≡◌, ◌<◌, arith, inl, inr, ℕ, ◌*◌, ◌/◌, ◌==◌, Bool, true, false, not, ◌&&◌, ◌||◌, List, [], ◌∷◌, ◌++◌, Option, Some, None, refl, sym, ap, ◌∙◌, subst, eq-eqb}
+use Rattle.std.proofs.Common.{◌≡◌, ◌<◌, arith, inl, inr, ℕ, ◌*◌, ◌/◌, ◌==◌, Bool, true, false, not, ◌&&◌, List, [], ◌∷◌, ◌++◌, Option, Some, None, refl, sym, ap, ◌∙◌, subst, eq-eqb}
 use Rattle.std.specs.Prelude.{is_some}
 use Rattle.std.specs.List.{find, list_any}
 use Rattle.std.proofs.lemmas.Bool.{cases_Bool, and_from, and_parts, or_left, eqb-true}
@@ -18,14 +18,14 @@ use Rattle.heap_model.specs.declared.What.TheVariants as whats
 use Rattle.heap_model.specs.State.{Setting, State, Span, Place, Live, InHand, hands, in_hand, hand_at, holds, is_entered, has_address, is_live_at, is_hand_at, exclusive_places, change_found, remove_found}
 use Rattle.heap_model.specs.Stay.{for_some}
 use Rattle.heap_model.specs.CallState.{Configuration, CallState, Nothing, caller_view}
-use Rattle.heap_model.specs.Legal.{may, may_follow, after, call_after, meets_demand, may_touch, with_places, with_status, layer_of, unspan_of, may_unspan_of, is_unused, has_place, places_in, leaves_whole}
+use Rattle.heap_model.specs.Legal.{after, call_after, may_touch, with_places, with_status, layer_of, unspan_of, may_unspan_of, is_unused, has_place, places_in, leaves_whole}
 use Rattle.heap_model.specs.History.{configuration_after}
 use Rattle.claim_rule.specs.Entries.{entry, is_of_lfh, may_prepare, are_prepared}
 use Rattle.serial_laws.proofs.Allocate.{empty_parts}
 use Rattle.call_laws.specs.Within.{by_all}
 use Rattle.call_laws.proofs.Within.{updated_here}
 use Rattle.heap_gate.specs.Token.{Token, Always, now, IsStanding, is_out}
-use Rattle.heap_gate.specs.Calls.{rested, HasRested}
+use Rattle.heap_gate.specs.Calls.{HasRested}
 use Rattle.call_parts.specs.Entries.{with_all}
 use Rattle.call_parts.proofs.Tokens.{now_all, prepares, one_prepared}
 use Rattle.paged_calls.proofs.Taken.{take, drop, taken, live_one, in_hand_after, dropped, none_left}

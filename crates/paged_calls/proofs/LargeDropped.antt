@@ -1,5 +1,5 @@
 -- A block of the large area is taken and dropped by the holder of the lock.
-use Rattle.std.proofs.Common.{◌≡◌, ℕ, ◌*◌, ◌==◌, Bool, true, false, not, ◌&&◌, ◌||◌, List, [], ◌∷◌, ◌++◌, Option, Some, None, refl, sym, ap, ◌∙◌, subst, eq-eqb}
+use Rattle.std.proofs.Common.{◌≡◌, ℕ, ◌*◌, true, not, ◌&&◌, List, [], ◌∷◌, ◌++◌, Option, Some, refl, sym, ap, ◌∙◌, subst, eq-eqb}
 use Rattle.std.specs.Prelude.{is_some}
 use Rattle.std.specs.List.{find}
 use Rattle.std.proofs.lemmas.Bool.{and_from, eqb-true}
@@ -7,14 +7,12 @@ use Rattle.heap_model.specs.declared.Act.{Act}
 use Rattle.heap_model.specs.declared.Act.TheVariants as acts
 use Rattle.heap_model.specs.declared.Call.{Call}
 use Rattle.heap_model.specs.declared.Layer.TheVariants as layers
-use Rattle.heap_model.specs.declared.Opening.{Opening}
 use Rattle.heap_model.specs.declared.What.TheVariants as whats
 use Rattle.heap_model.specs.Geometry.{pages_of}
-use Rattle.heap_model.specs.State.{Setting, State, Place, Live, InHand, hands, in_hand, hand_at, holds, is_entered, has_address, is_live_at, is_hand_at, exclusive_places, change_found, remove_found}
+use Rattle.heap_model.specs.State.{Setting, Place, Live, InHand, hands, in_hand, hand_at, holds, is_entered, has_address, is_live_at, is_hand_at, exclusive_places, change_found, remove_found}
 use Rattle.heap_model.specs.Stay.{for_some}
 use Rattle.heap_model.specs.CallState.{Configuration, CallState, Nothing, caller_view}
-use Rattle.heap_model.specs.Legal.{may, may_follow, after, call_after, meets_demand, may_touch, with_places, with_status, layer_of, unspan_of, leaves_whole}
-use Rattle.heap_model.specs.History.{configuration_after}
+use Rattle.heap_model.specs.Legal.{after, call_after, may_touch, with_places, with_status, layer_of, unspan_of, leaves_whole}
 use Rattle.heap_model.specs.Layers.{StandsForLarge}
 use Rattle.heap_soundness.proofs.Lists.{found_passes}
 use Rattle.claim_rule.specs.Entries.{entry, is_of_lfh, may_prepare, are_prepared}

@@ -1,15 +1,15 @@
 -- What the holder of the lock of the large area finds at an address.
-use Rattle.std.proofs.Common.{◌≡◌, ◌⊎◌, ℕ, ◌*◌, ◌/◌, ◌≤◌, Bool, true, false, List, [], ◌∷◌, ◌++◌, Option, Some, None, refl, sym, ap, ◌∙◌, subst, inl, inr}
+use Rattle.std.proofs.Common.{◌≡◌, ℕ, ◌*◌, ◌/◌, ◌≤◌, true, ◌++◌, Option, Some, None, refl, sym, ap, ◌∙◌, subst, inl, inr}
 use Rattle.std.specs.Prelude.{is_some, option_map}
 use Rattle.std.specs.List.{find}
 use Rattle.heap_model.specs.declared.Act.TheVariants as acts
 use Rattle.heap_model.specs.declared.Call.{Call}
 use Rattle.heap_model.specs.declared.What.TheVariants as whats
-use Rattle.heap_model.specs.State.{Setting, Live, hands, holds, guarded, has_address, exclusive_places}
+use Rattle.heap_model.specs.State.{hands, holds, guarded, has_address, exclusive_places}
 use Rattle.heap_model.specs.CallState.{Configuration}
 use Rattle.heap_model.specs.Legal.{leaves_whole}
 use Rattle.heap_model.specs.Layers.{StandsForLarge}
-use Rattle.claim_rule.specs.Entries.{IsSettingOf, may_prepare}
+use Rattle.claim_rule.specs.Entries.{may_prepare}
 use Rattle.look_steps.specs.Denials.{MayDeny}
 use Rattle.large_blocks.specs.declared.LargeBlock.{LargeBlock}
 use Rattle.large_blocks.specs.Table.{LargeTable, layer_of, place_of, is_at}

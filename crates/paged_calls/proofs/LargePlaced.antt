@@ -1,7 +1,7 @@
 -- A block of the large area that is placed and handed over, under the lock.
-use Rattle.std.proofs.Common.{◌≡◌, ℕ, ◌+◌, ◌*◌, ◌-◌, ◌/◌, ◌≤◌, Bool, true, false, ◌&&◌, List, [], ◌∷◌, ◌++◌, Option, Some, None, refl, sym, ap, ◌∙◌, subst, arith, ltb, inl, inr, eq-eqb}
+use Rattle.std.proofs.Common.{◌≡◌, ℕ, ◌+◌, ◌*◌, ◌-◌, ◌/◌, ◌≤◌, Bool, true, List, [], ◌∷◌, ◌++◌, Option, Some, None, refl, sym, ap, ◌∙◌, subst, arith, ltb, inl, inr, eq-eqb}
 use Rattle.std.specs.Prelude.{is_some}
-use Rattle.std.proofs.lemmas.Bool.{cases_Bool, and_from, lt-leb, le-leb}
+use Rattle.std.proofs.lemmas.Bool.{cases_Bool, lt-leb, le-leb}
 use Rattle.heap_model.specs.declared.Act.{Act}
 use Rattle.heap_model.specs.declared.Act.TheVariants as acts
 use Rattle.heap_model.specs.declared.Call.{Call}
@@ -14,12 +14,12 @@ use Rattle.heap_model.specs.declared.Opening.{Opening}
 use Rattle.heap_model.specs.declared.What.TheVariants as whats
 use Rattle.heap_model.specs.Geometry.{pages_of, words_of, route_of, is_huge}
 use Rattle.heap_model.specs.Ranges.{large_place}
-use Rattle.heap_model.specs.State.{Setting, State, Place, InHand, hands, in_hand, places_of, holds}
+use Rattle.heap_model.specs.State.{State, Place, hands, in_hand, places_of, holds}
 use Rattle.heap_model.specs.CallState.{Configuration, caller_view}
-use Rattle.heap_model.specs.Legal.{after, leaves_whole, suits}
+use Rattle.heap_model.specs.Legal.{leaves_whole, suits}
 use Rattle.heap_model.specs.Layers.{StandsForLarge}
 use Rattle.heap_model.specs.Shape.{zeroing}
-use Rattle.claim_rule.specs.Entries.{IsSettingOf, setting_of, entry, may_prepare}
+use Rattle.claim_rule.specs.Entries.{setting_of, entry, may_prepare}
 use Rattle.claim_rule.specs.Places.{large_slot, data_count}
 use Rattle.claim_rule.proofs.Advance.{some_setting}
 use Rattle.serial_laws.proofs.Allocate.{empty_parts}

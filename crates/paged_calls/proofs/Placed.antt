@@ -1,5 +1,5 @@
 -- The entries of a block of the back end, and what they leave.
-use Rattle.std.proofs.Common.{◌≡◌, ◌⊎◌, ℕ, ◌+◌, ◌*◌, ◌-◌, ◌/◌, ◌<◌, ◌≤◌, ◌==◌, Bool, true, false, ◌&&◌, List, [], ◌∷◌, ◌++◌, length, Option, Some, None, refl, sym, ap, ◌∙◌, subst, arith, ltb, inl, inr, eq-eqb}
+use Rattle.std.proofs.Common.{◌≡◌, ◌⊎◌, ℕ, ◌+◌, ◌*◌, ◌-◌, ◌/◌, ◌<◌, ◌≤◌, Bool, true, false, List, [], ◌∷◌, ◌++◌, length, Option, Some, None, refl, sym, ap, ◌∙◌, subst, arith, ltb, inl, inr, eq-eqb}
 use Rattle.std.specs.Prelude.{is_some}
 use Rattle.std.proofs.lemmas.Bool.{cases_Bool, and_parts, lt-ltb, le-ltb, lt-leb, le-leb}
 use Rattle.heap_model.specs.declared.Act.{Act}
@@ -14,16 +14,15 @@ use Rattle.heap_model.specs.declared.Limits.{Limits}
 use Rattle.heap_model.specs.declared.Opening.{Opening}
 use Rattle.heap_model.specs.declared.What.TheVariants as whats
 use Rattle.heap_model.specs.Geometry.{pages_of, route_of, is_paged}
-use Rattle.heap_model.specs.State.{Setting, State, Area, BackPart, Place, Live, InHand, hands, in_hand, places_of, holds, address}
+use Rattle.heap_model.specs.State.{Setting, State, Area, BackPart, Place, Live, InHand, hands, in_hand, places_of, holds}
 use Rattle.heap_model.specs.Backend.{back_place}
 use Rattle.heap_model.specs.CallState.{Configuration, CallState, caller_view}
-use Rattle.heap_model.specs.Search.{request_of}
-use Rattle.heap_model.specs.Legal.{may_follow, after, call_after, leaves_whole, with_span, with_status}
+use Rattle.heap_model.specs.Legal.{may_follow, after, call_after, leaves_whole, with_span}
 use Rattle.heap_model.specs.History.{configuration_after, may_all_follow}
 use Rattle.heap_model.specs.Layers.{StandsForBack}
-use Rattle.claim_rule.specs.Entries.{IsSettingOf, setting_of, entry, may_prepare, are_prepared}
+use Rattle.claim_rule.specs.Entries.{setting_of, entry, may_prepare, are_prepared}
 use Rattle.claim_rule.proofs.Advance.{some_setting}
-use Rattle.serial_laws.specs.BackCalls.{block_span, one_more_reserved}
+use Rattle.serial_laws.specs.BackCalls.{block_span}
 use Rattle.serial_laws.proofs.Allocate.{empty_parts, gives}
 use Rattle.call_laws.specs.Within.{by_all, IsWithin}
 use Rattle.call_laws.specs.Spans.{back_acts, with_back_block}

@@ -1,5 +1,5 @@
 -- What the acts of a part show, and how a part is put together.
-use Rattle.std.proofs.Common.{◌≡◌, ℕ, ◌+◌, ◌*◌, ◌/◌, zero, suc, Bool, true, false, not, List, [], ◌∷◌, ◌++◌, Option, Some, refl, sym, ap, ◌∙◌, subst, ltb, inl, inr}
+use Rattle.std.proofs.Common.{◌≡◌, ℕ, ◌+◌, ◌*◌, ◌/◌, zero, suc, Bool, true, false, List, [], ◌∷◌, ◌++◌, Option, Some, refl, sym, ap, ◌∙◌, subst, ltb, inl, inr}
 use Rattle.std.proofs.lemmas.Bool.{cases_Bool}
 use Rattle.std.proofs.lemmas.List.{append-nil}
 use Rattle.heap_model.specs.declared.Act.{Act}
@@ -21,13 +21,13 @@ use Rattle.claim_rule.specs.Entries.{entry}
 use Rattle.claim_rule.specs.Home.{slot_of}
 use Rattle.lock_steps.specs.Locks.{owed_with}
 use Rattle.heap_gate.specs.Token.{Token}
-use Rattle.heap_gate.specs.Calls.{HasTaken, HasMissed, HasGiven, with_prepared}
+use Rattle.heap_gate.specs.Calls.{HasTaken, HasMissed, HasGiven}
 use Rattle.call_parts.specs.Calls.{IsServing, Makes}
 use Rattle.call_parts.proofs.Joining.{goes_does}
 use Rattle.call_parts.proofs.Serving.{none_begins, none_begins-append, shape-append, new_since}
 use Rattle.call_parts.specs.Entries.{block_acts, HasAdded, HasEnded}
 use Rattle.paged_calls.specs.Parts.{IsAllocating, Shows, HasPlaced, Places, IsRefused}
-use Rattle.call_parts.proofs.Tokens.{added_one, added_then, added_taken, ended_given, ended_missed, ended_then, makes}
+use Rattle.call_parts.proofs.Tokens.{added_taken, ended_given, ended_missed, ended_then, makes}
 
 ---- Shapes
 

@@ -1,11 +1,9 @@
 -- The place that is found by its address, taken and dropped.
-use Rattle.std.proofs.Common.{◌≡◌, ℕ, ◌==◌, Bool, true, false, List, [], ◌∷◌, ◌++◌, Option, Some, refl, sym, ap, subst, ◌∙◌, inl, inr}
+use Rattle.std.proofs.Common.{◌≡◌, ℕ, Bool, true, false, List, [], ◌∷◌, Some, refl, sym, ap, subst, inl, inr}
 use Rattle.std.specs.List.{find}
 use Rattle.std.proofs.lemmas.Bool.{cases_Bool, eq-eqb}
-use Rattle.heap_model.specs.declared.Kind.{Kind}
 use Rattle.heap_model.specs.declared.Layer.{Layer}
-use Rattle.heap_model.specs.State.{Span, Place, Live, InHand, has_address, in_hand, is_hand_at, is_live_at, change_found, remove_found, is_in_hand_of, is_kind}
-use Rattle.heap_model.specs.Ranges.{is_of_kind}
+use Rattle.heap_model.specs.State.{Place, Live, InHand, has_address, in_hand, is_hand_at, is_live_at, change_found, remove_found, is_in_hand_of}
 use Rattle.heap_model.specs.Legal.{with_status}
 
 -- of any caller c

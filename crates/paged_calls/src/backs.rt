@@ -1,5 +1,5 @@
 //! Blocks among the runs of the back end.
-ghost use Rattle.std.specs.Prelude.{◌≡◌, ◌*◌, ◌+◌, ◌≤◌, ◌<◌, option_map};
+ghost use Rattle.std.specs.Prelude.{◌≡◌, ◌*◌, ◌+◌, ◌≤◌, ◌<◌};
 ghost use Rattle.std.specs.List.{find};
 ghost use Rattle.heap_model.specs.Geometry.{pages_of};
 ghost use Rattle.heap_model.specs.State.{is_kind};

@@ -2,9 +2,8 @@
 use Rattle.std.proofs.Common.{◌≡◌, ℕ, ◌+◌, ◌<◌, List, [], length, take, get_or, map, ap, sym, ◌∙◌, subst}
 use Rattle.std.proofs.lemmas.List.{length-map, get_or-map}
 use Rattle.std.proofs.lemmas.List.Sums.{sum_by_more}
-use Rattle.script_text.specs.declared.commands.Command.{Command}
 use Rattle.script_text.specs.ThreadLines.{ThreadLines, ScriptLines}
-use Rattle.script_text.specs.Scripts.{command_of, commands_of, round_at, thread_at, no_thread}
+use Rattle.script_text.specs.Scripts.{command_of, commands_of, round_at, no_thread}
 use Rattle.report_text.specs.Commands.{thread_commands, round_commands}
 use Rattle.report_text.specs.Summary.{commands_of_round, commands_in}
 

@@ -1,7 +1,6 @@
 // A script from a count and a seed.
-ghost use Rattle.std.specs.Prelude.{◌≡◌, ℕ, zero, suc, ◌+◌, ◌*◌, ◌^◌, ◌<◌, ◌≤◌, Bool, not, ◌&&◌, nat_lt, [], IfOk, is_some, unwrap_or, if◌then◌else◌};
-ghost use Rattle.script_text.specs.Names.{number_of_name};
-ghost use Rattle.script_text.specs.Generator.{size_of, on_held, command_on, name_of, name_draw, value_draw, drawn, drawn_behind, name_text, names_drawn, numbered, command_lines, generated};
+ghost use Rattle.std.specs.Prelude.{◌≡◌, ℕ, zero, suc, ◌+◌, ◌^◌, ◌<◌, ◌≤◌, not, ◌&&◌, nat_lt, [], IfOk, is_some, unwrap_or, if◌then◌else◌};
+ghost use Rattle.script_text.specs.Generator.{size_of, on_held, command_on, name_draw, value_draw, drawn, drawn_behind, names_drawn, numbered, command_lines, generated};
 ghost use Rattle.script_text.specs.Drawing.{HasDrawn};
 
 use crate::commands::{Command, CommandLine, Target};

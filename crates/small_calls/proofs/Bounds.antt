@@ -13,7 +13,7 @@ use Rattle.heap_model.specs.declared.Layer.TheVariants as layers
 use Rattle.heap_model.specs.declared.What.TheVariants as whats
 use Rattle.heap_model.specs.Buckets.{bucket_of, bucket_pages, block_size, block_count, block_address}
 use Rattle.heap_model.specs.Runs.{Run}
-use Rattle.heap_model.specs.State.{Setting, State, Area, Span, Place, Status, Live, InHand, address, has_address, is_kind, is_layer, is_in_hand_of, is_hand_at, is_live, is_live_at, place_at, hand_at, insert_span, remove_found, change_found}
+use Rattle.heap_model.specs.State.{Setting, State, Area, Span, Place, Status, Live, InHand, address, has_address, is_kind, is_layer, is_in_hand_of, is_hand_at, is_live, is_live_at, place_at, hand_at, remove_found, change_found}
 use Rattle.heap_model.specs.Stay.{for_some, is_some_of}
 use Rattle.heap_model.specs.Bits.{starts_at}
 use Rattle.heap_model.specs.Ranges.{gaps}

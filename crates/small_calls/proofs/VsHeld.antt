@@ -15,7 +15,7 @@ use Rattle.heap_model.specs.Geometry.{page_bytes}
 use Rattle.heap_model.specs.Layers.{StandsForVs, sorted_vs}
 use Rattle.heap_model.specs.Legal.{has_place}
 use Rattle.heap_model.specs.Shape.{shape_of}
-use Rattle.heap_model.specs.State.{holds, VsPart}
+use Rattle.heap_model.specs.State.{holds}
 use Rattle.claim_rule.specs.Entries.{IsSettingOf, entry}
 use Rattle.claim_rule.specs.Places.{vs_slot}
 use Rattle.heap_gate.specs.Token.{Token, Always, now, is_out, IsStanding}

@@ -6,7 +6,6 @@ ghost use Rattle.heap_model.specs.Buckets.{bucket_of};
 ghost use Rattle.claim_rule.specs.Places.{data_count};
 ghost use Rattle.heap_gate.specs.Token.{Always, now, is_out};
 ghost use Rattle.call_parts.specs.Entries.{Zeroes};
-ghost use Rattle.lfh_buckets.specs.Blocks.{IsBucket};
 ghost use Rattle.lfh_claims.specs.Search.{own_slot};
 ghost use Rattle.small_calls.specs.Fronts.{HasRoomFor, IsHandedOver, IsAsking, ServesByHint};
 

@@ -1,5 +1,5 @@
 //! An allocation of a bucket that was not active, under the lock of the variable-size layer.
-ghost use Rattle.std.specs.Prelude.{◌≡◌, ℕ, Bool, Some, [], true};
+ghost use Rattle.std.specs.Prelude.{◌≡◌, Some, [], true};
 ghost use Rattle.heap_model.specs.Buckets.{bucket_of};
 ghost use Rattle.heap_gate.specs.Token.{Always, now};
 ghost use Rattle.small_calls.specs.Fronts.{IsAsking};

@@ -3,7 +3,7 @@ use Rattle.std.proofs.Common.{nat_le, ◌≡◌, ℕ, ◌+◌, ◌-◌, ◌*◌,
 use Rattle.std.specs.Prelude.{is_some, option_map}
 use Rattle.std.specs.List.{AllByRecursion, find, list_any, list_all}
 use Rattle.std.specs.Bool.{OnTrue, OnFalse}
-use Rattle.std.proofs.lemmas.Bool.{OnTrue_at, OnFalse_at, cases_Bool, cases_lt, and_from, and_left, and_parts, eqb-true, le-leb, lt-leb, false≢true}
+use Rattle.std.proofs.lemmas.Bool.{OnTrue_at, OnFalse_at, cases_Bool, cases_lt, and_left, and_parts, eqb-true, le-leb, lt-leb, false≢true}
 use Rattle.heap_model.specs.declared.Act.{Act}
 use Rattle.heap_model.specs.declared.Act.TheVariants as acts
 use Rattle.heap_model.specs.declared.Call.{Call}

@@ -9,7 +9,7 @@ use Rattle.heap_model.specs.declared.Call.{Call}
 use Rattle.heap_model.specs.declared.Call.TheVariants as calls
 use Rattle.heap_model.specs.declared.Flags.{Flags}
 use Rattle.heap_model.specs.Geometry.{words_of}
-use Rattle.heap_model.specs.State.{Setting, State, Place, hands}
+use Rattle.heap_model.specs.State.{State, Place, hands}
 use Rattle.heap_model.specs.CallState.{Configuration}
 use Rattle.heap_model.specs.History.{configuration_of}
 use Rattle.heap_model.specs.declared.Layer.TheVariants as layers

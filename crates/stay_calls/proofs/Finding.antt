@@ -10,7 +10,7 @@ use Rattle.heap_model.specs.declared.Layer.TheVariants as layers
 use Rattle.heap_model.specs.declared.What.TheVariants as whats
 use Rattle.heap_model.specs.Geometry.{route_of, is_paged, is_huge, units_of, pages_of}
 use Rattle.heap_model.specs.Ranges.{gaps_of, large_runs, taken_of}
-use Rattle.heap_model.specs.State.{Setting, State, BackPart, VsPart, Place, Status, Live, is_layer, is_live, is_live_of, is_live_at, is_in_hand_of, is_entered, in_hand, hands, places_of, holds, guarded, has_address, exclusive_places, all_places, place_at, change_found}
+use Rattle.heap_model.specs.State.{Setting, State, BackPart, VsPart, Place, Status, Live, is_layer, is_live, is_live_of, is_live_at, is_in_hand_of, is_entered, in_hand, hands, holds, guarded, has_address, exclusive_places, all_places, place_at, change_found}
 use Rattle.heap_model.specs.Stay.{for_some, run_from, reach_back, lets_stay, resized}
 use Rattle.heap_model.specs.CallState.{Configuration, Nothing, caller_view}
 use Rattle.heap_model.specs.Legal.{may, may_follow, after, meets_demand, may_touch, is_begin, is_resized, with_places, resize_place, area_with, on}

@@ -10,7 +10,7 @@ use Rattle.heap_model.specs.declared.What.TheVariants as whats
 use Rattle.heap_model.specs.Geometry.{units_of}
 use Rattle.heap_model.specs.Ranges.{vs_spans, taken_of}
 use Rattle.heap_model.specs.Runs.{Run}
-use Rattle.heap_model.specs.State.{Setting, State, BackPart, VsPart, Span, Place, Status, Live, is_live, is_layer, live_size, has_address, is_live_at, hands, holds, change_found}
+use Rattle.heap_model.specs.State.{Setting, State, Span, Place, Status, Live, is_live, is_layer, live_size, has_address, is_live_at, hands, holds, change_found}
 use Rattle.heap_model.specs.Stay.{run_from, lets_stay, resized}
 use Rattle.heap_model.specs.CallState.{Configuration, caller_view}
 use Rattle.heap_model.specs.Legal.{leaves_whole, lies_in, has_place, resize_place, may_touch, on}

@@ -1,8 +1,8 @@
-use Rattle.std.proofs.Common.{◌≡◌, ℕ, ◌∙◌, ◌+◌, sym, subst, ap, arith}
+use Rattle.std.proofs.Common.{◌≡◌, ℕ, ◌∙◌, sym, subst, ap, arith}
 use Rattle.heap_model.specs.Limits.{AreValid}
 use Rattle.heap_model.specs.declared.Opening.{Opening}
 use Rattle.data_words.specs.Clears.{IsCleared}
-use Rattle.data_words.proofs.Clearing.{cleared_none, cleared_more}
+use Rattle.data_words.proofs.Clearing.{cleared_more}
 use Rattle.data_words.proofs.clear.Goals as goal
 
 -- the limits are small

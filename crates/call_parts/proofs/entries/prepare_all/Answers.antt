@@ -1,10 +1,9 @@
-use Rattle.std.proofs.Common.{◌≡◌, ◌+◌, ◌≤◌, ◌∙◌, ◌++◌, true, List, [], ◌∷◌, length, false, get_or, take, drop, refl, sym, ap, subst, arith}
+use Rattle.std.proofs.Common.{◌≡◌, ◌+◌, ◌∙◌, true, List, length, false, get_or, take, drop, sym, ap, subst, arith}
 use Rattle.std.proofs.lemmas.List.{take_more, take_all, length-take}
 use Rattle.heap_model.specs.declared.Act.{Act}
 use Rattle.heap_model.specs.declared.Act.TheVariants as acts
 use Rattle.heap_model.specs.declared.Call.TheVariants as calls
-use Rattle.heap_model.specs.State.{Setting}
-use Rattle.claim_rule.specs.Entries.{may_prepare, are_prepared, IsSettingOf}
+use Rattle.claim_rule.specs.Entries.{may_prepare, are_prepared}
 use Rattle.heap_gate.specs.Token.{Token, Always, now}
 use Rattle.heap_gate.specs.Calls.{with_prepared}
 use Rattle.call_laws.specs.Within.{by_all}

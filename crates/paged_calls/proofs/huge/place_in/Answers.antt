@@ -1,21 +1,18 @@
-use Rattle.std.proofs.Common.{◌≡◌, ℕ, ◌+◌, ◌*◌, ◌/◌, ◌≤◌, ◌==◌, ◌∙◌, Bool, true, not, ◌||◌, [], ◌∷◌, Option, Some, None, refl, sym, ap, subst, arith}
+use Rattle.std.proofs.Common.{◌≡◌, ℕ, ◌+◌, ◌/◌, ◌≤◌, ◌==◌, ◌∙◌, Bool, true, not, ◌||◌, [], ◌∷◌, Some, refl, sym, ap, subst}
 use Rattle.heap_model.specs.declared.Act.TheVariants as acts
 use Rattle.heap_model.specs.declared.Layer.TheVariants as layers
 use Rattle.heap_model.specs.declared.Limits.{Limits}
 use Rattle.heap_model.specs.declared.Opening.{Opening}
 use Rattle.heap_model.specs.declared.What.TheVariants as whats
-use Rattle.heap_model.specs.Geometry.{pages_of, words_of}
+use Rattle.heap_model.specs.Geometry.{words_of}
 use Rattle.heap_model.specs.Layers.{StandsForLarge}
 use Rattle.heap_model.specs.Legal.{leaves_whole}
-use Rattle.heap_model.specs.Ranges.{large_place}
 use Rattle.claim_rule.specs.Entries.{entry, may_prepare}
 use Rattle.claim_rule.specs.Places.{data_count}
 use Rattle.large_blocks.specs.Table.{LargeTable, layer_of}
-use Rattle.large_blocks.specs.Effects.{InEach}
 use Rattle.large_blocks.specs.Sound.{AreLaid}
 use Rattle.heap_gate.specs.Token.{Token, Always, now}
 use Rattle.heap_gate.specs.Calls.{HasGiven, with_prepared}
-use Rattle.paged_calls.proofs.Carving.{if_some, if_none}
 use Rattle.call_parts.proofs.Tokens.{added_one}
 use Rattle.paged_calls.proofs.Shapes.{given_behind}
 use Rattle.paged_calls.proofs.LargePlaced.{huge_route, words_there, large_limits, large_new, large_token, place_may, large_here, large_added, large_out, large_inside, large_whole, large_tells, large_placed, large_refused, large_refused_tells}

@@ -1,24 +1,20 @@
-use Rattle.std.proofs.Common.{◌≡◌, ℕ, ◌+◌, ◌*◌, ◌/◌, ◌≤◌, ◌==◌, ◌∙◌, Bool, true, not, ◌||◌, [], ◌∷◌, Some, None, refl, sym, ap, subst, arith}
+use Rattle.std.proofs.Common.{◌≡◌, ℕ, ◌+◌, ◌*◌, ◌/◌, ◌≤◌, ◌==◌, ◌∙◌, Bool, true, not, ◌||◌, [], ◌∷◌, Some, refl, sym, ap, subst, arith}
 use Rattle.heap_model.specs.declared.Act.TheVariants as acts
-use Rattle.heap_model.specs.declared.Call.TheVariants as calls
-use Rattle.heap_model.specs.declared.Layer.TheVariants as layers
 use Rattle.heap_model.specs.declared.Opening.{Opening}
 use Rattle.heap_model.specs.declared.What.TheVariants as whats
 use Rattle.heap_model.specs.Layers.{StandsForBack}
 use Rattle.heap_model.specs.Legal.{leaves_whole}
-use Rattle.heap_model.specs.State.{Place}
 use Rattle.claim_rule.specs.Entries.{entry, are_prepared}
 use Rattle.call_laws.specs.Within.{by_all}
 use Rattle.page_region.specs.Held.{Held}
-use Rattle.backend_fit.specs.Kept.{Kept, layer_of}
+use Rattle.backend_fit.specs.Kept.{layer_of}
 use Rattle.heap_gate.specs.Token.{Token, Always, now}
 use Rattle.heap_gate.specs.Calls.{HasGiven, with_prepared}
 use Rattle.claim_rule.specs.Places.{data_count}
 use Rattle.heap_model.specs.declared.Limits.{Limits}
 use Rattle.heap_model.specs.Geometry.{words_of}
-use Rattle.call_parts.specs.Entries.{with_all, block_acts, HasNew, HasHandedOver}
-use Rattle.paged_calls.specs.Parts.{Shows, HasPlaced}
-use Rattle.call_parts.proofs.Tokens.{added_one, added_then}
+use Rattle.call_parts.specs.Entries.{with_all, block_acts}
+use Rattle.call_parts.proofs.Tokens.{added_one}
 use Rattle.paged_calls.proofs.Placed.{paged_route, block_may, block_token, block_added, tells_limits, refused_may, refused_tells}
 use Rattle.paged_calls.proofs.Placing.{the_place, new_here, all_added, out_then, inside_then, whole_then, owes_then, tells_then, placed_then}
 use Rattle.paged_calls.proofs.Shapes.{given_behind}

@@ -1,4 +1,4 @@
-use Rattle.std.proofs.Common.{◌≡◌, ◌*◌, length, subst, ◌∙◌, arith}
+use Rattle.std.proofs.Common.{◌≡◌, ◌*◌, length, subst, arith}
 use Rattle.heap_soundness.specs.Sound.{AreInOrder, AreAt, IsInVs}
 use Rattle.vs_layer.specs.Kept.{VsKept, places_of}
 use Rattle.vs_layer.specs.Effects.{ShowsChunks}
