@@ -43,7 +43,7 @@ module _ (k : Kept) (page : ℕ) (sound : IsSound k) where
   idle_none e = elim (cases_Bool (is_usable (area_of k) page)) [
     | inr u ↦ rw u refl
     | inl u ↦
-        let below = ltb-true (page / 256) k.region.reserved (and_parts (ltb (page / 256) k.region.reserved) (leb 2 (page % 256)) u).0 in
+        let below = ltb-true (page / 256) (area_of k).reserved (and_parts (ltb (page / 256) (area_of k).reserved) (leb 2 (page % 256)) u).0 in
         let few = sound.held.reserved in
         let len = sound.pages in
         let f : None ≡ find (has_page page) (runs_of k.words) = (rw u at e) in

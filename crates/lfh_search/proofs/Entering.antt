@@ -58,6 +58,22 @@ module _ (c e : Token) (its : List Act) (are : AreReadings its) (r : Runs c e (b
 pub holds_back : (c : Token) → IsStanding c → is_out whats.Back c.out ≡ true → Always c (λ s. holds (now s c).state.gate c.number whats.Back ≡ true)
 holds_back c st out s q = (st s q).locks whats.Back ∙ out
 
+-- who reads the word of its hint knows it
+module _ (c e : Token) (b d : ℕ) (f : Search) (h : Searches c b d f) (held : Always c (λ s. holds (now s c).state.gate c.number whats.Back ≡ true)) (r : Option ℕ) (x : ReadsHint c e b r) where
+  slot : own_slot e ≡ own_slot c
+  slot = same_slot c e [] tt x.runs b d f h
+
+  is : sought e ≡ b
+  is = sought_is e b d f (searches_on c e [] tt x.runs b d f h)
+
+  word : (s : Setting) → IsSettingOf e.opening e.roll s → owed_or e.owes (118 + 16 * sought e + own_slot e) (hint_word (now s e).state.back.area (now s e).now.span_history (sought e) (own_slot e)) ≡ unwrap_or r 0
+  word s q =
+      (λ j. owed_or (x.stands.owes j) (118 + 16 * is j + slot j) (hint_word (now s e).state.back.area (now s e).now.span_history (is j) (slot j)))
+      ∙ sym (x.word s q)
+
+  pub hint_known : KnowsHint e
+  hint_known = record { held = held_on c e [] tt x.runs held; known = λ _ s q. word s q ∙ sym (word (setting_of e.opening e.roll) (some_setting e.opening e.roll)) }
+
 ---- The hint was read
 
 module _ (c e : Token) (back : Kept) (course : Course) (f : Search) (lost : ℕ) (u : IsUnder c back course f lost) (st : IsStanding c) (r : Option ℕ) (h : ReadsHint c e course.bucket r) where
@@ -76,17 +92,6 @@ module _ (c e : Token) (back : Kept) (course : Course) (f : Search) (lost : ℕ)
   pub slot_on : own_slot e ≡ own_slot c
   slot_on = same_slot c e [] tt h.runs b d f u.searching
 
-  known : KnowsHint e
-  known = record { held = held_on c e [] tt h.runs held; known = λ _ s q. word s q ∙ sym (word (setting_of e.opening e.roll) (some_setting e.opening e.roll)) }
-    where
-      is : sought e ≡ b
-      is = sought_is e b d f searching_on
-
-      word : (s : Setting) → IsSettingOf e.opening e.roll s → owed_or e.owes (118 + 16 * sought e + own_slot e) (hint_word (now s e).state.back.area (now s e).now.span_history (sought e) (own_slot e)) ≡ unwrap_or r 0
-      word s q =
-          (λ j. owed_or (h.stands.owes j) (118 + 16 * is j + slot_on j) (hint_word (now s e).state.back.area (now s e).now.span_history (is j) (slot_on j)))
-          ∙ sym (h.word s q)
-
   pub begins_pass : lost < 8 → IsPassing e back course f 0 lost
   begins_pass l =
       let m = u.begins l in
@@ -101,6 +106,6 @@ module _ (c e : Token) (back : Kept) (course : Course) (f : Search) (lost : ℕ)
         back_is = back_of_on c e [] tt h.runs back held u.back_is;
         out = ap (is_out whats.Back) h.stands.out ∙ u.out;
         of_pass = of_pass_on c e [] tt h.runs f.stage (u.of_pass l);
-        hint = known;
+        hint = hint_known c e b d f u.searching held r h;
         waits = waits_none e h.stands.prepared;
       }

@@ -1,13 +1,14 @@
 -- The first pass of a search: the hint, and the subsegment that it names.
-use Rattle.std.proofs.Common.{◌≡◌, inl, ⊎_elim, ℕ, ◌+◌, ◌<◌, ◌==◌, true, false, ◌&&◌, ◌||◌, List, [], ◌∷◌, Option, Some, refl, sym, ap, ◌∙◌, subst, arith, eq-eqb}
+use Rattle.std.proofs.Common.{◌≡◌, inl, ⊎_elim, ℕ, ◌+◌, ◌<◌, ◌==◌, true, ◌&&◌, ◌||◌, List, [], ◌∷◌, Option, Some, refl, sym, ap, ◌∙◌, subst, arith, eq-eqb}
 use Rattle.std.specs.List.{list_any}
-use Rattle.std.proofs.lemmas.Bool.{and_from, or_left, or_right, both_ways}
+use Rattle.std.proofs.lemmas.Bool.{and_from, or_left, or_right}
 use Rattle.heap_model.specs.declared.Act.{Act}
 use Rattle.heap_model.specs.declared.Act.TheVariants as acts
+use Rattle.heap_model.specs.declared.Entry.{Entry}
 use Rattle.heap_model.specs.declared.What.TheVariants as whats
 use Rattle.heap_model.specs.Buckets.{words_in_use, block_address}
 use Rattle.heap_model.specs.Stay.{is_some_of}
-use Rattle.heap_model.specs.State.{holds}
+use Rattle.heap_model.specs.State.{Area, holds}
 use Rattle.heap_model.specs.CallState.{Search, CallerView, not_begun, caller_view}
 use Rattle.heap_model.specs.Search.{spans_of, begins_at, hint, first_word, may_see, after_no_hint}
 use Rattle.heap_soundness.proofs.Lists.{any_in}
@@ -16,7 +17,7 @@ use Rattle.search_laws.specs.Reading.{word_behind}
 use Rattle.block_steps.specs.Searches.{MayHint, IsHinted}
 use Rattle.block_steps.proofs.Searches.{among_seen}
 use Rattle.heap_gate.specs.Token.{Token, now, Always, is_out, IsStanding}
-use Rattle.heap_gate.specs.Calls.{Runs, Stands, stance}
+use Rattle.heap_gate.specs.Calls.{Does, Runs, Stands, stance}
 use Rattle.lfh_claims.specs.Search.{own_slot}
 use Rattle.lfh_spans.specs.Hints.{FindsHint, FindsNoHint}
 use Rattle.lfh_search.specs.declared.course.Course.{Course}
@@ -24,10 +25,11 @@ use Rattle.lfh_search.specs.declared.hint.Found.{Found}
 use Rattle.lfh_search.specs.Acts.{by, AreReadings, losses, AreDry}
 use Rattle.lfh_search.specs.Standing.{key, dried}
 use Rattle.lfh_search.specs.Results.{Searches, Went, MayBegin, IsIn, HasPlaced, IsBeaten}
-use Rattle.lfh_search.specs.Readings.{CanRead, IsDried}
+use Rattle.lfh_search.specs.Readings.{HasHint, CanRead, IsDried}
+use Rattle.lfh_search.specs.Passes.{IsThere}
 use Rattle.lfh_search.specs.Hints.{NoHint, AllDry, Eighth, HasSpentHint, HasFound}
-use Rattle.lfh_search.proofs.Steps.{runs_then}
-use Rattle.lfh_search.proofs.Words.{searches_on, same_slot}
+use Rattle.lfh_search.proofs.Steps.{earlier, runs_then}
+use Rattle.lfh_search.proofs.Words.{searches_on, same_slot, hint_on, back_on}
 use Rattle.lfh_search.proofs.Seen.{waits_none}
 use Rattle.lfh_search.proofs.Readings.{seen_by}
 use Rattle.lfh_search.proofs.Placing.{placed_behind}
@@ -38,12 +40,12 @@ more_few n l = omega (arith, l)
 count_of : (n : ℕ) (its : List Act) → 0 + losses its ≡ n → losses its ≡ n
 count_of n its e = omega (arith, e)
 
-module _ (c : Token) (b d : ℕ) (h : Searches c b d not_begun) (free : is_out whats.Back c.out ≡ false) where
+module _ (c : Token) (b d : ℕ) (h : Searches c b d not_begun) (paid : is_out whats.Back c.out ≡ true → c.owes ≡ []) (knows : HasHint c) where
   -- the hint may be read
   pub may_hint : IsStanding c → Always c (λ s. MayHint s (now s c) c.number b (own_slot c) c.owes)
   may_hint st s q =
       let x = h s q in
-      record { begun = x.begun; inside = x.inside; seeks = x.seeks; slot = x.slot; fresh = ap (λ (f : Search). Rattle.heap_model.specs.Search.has_not_begun f.stage) x.search; old = x.old; paid = λ e. absurd (both_ways (holds (now s c).state.gate c.number whats.Back) ((st s q).locks whats.Back ∙ free) e) }
+      record { begun = x.begun; inside = x.inside; seeks = x.seeks; slot = x.slot; fresh = ap (λ (f : Search). Rattle.heap_model.specs.Search.has_not_begun f.stage) x.search; old = x.old; paid = λ e. paid (sym ((st s q).locks whats.Back) ∙ e) }
 
   -- it is empty
   pub finds_none : (e : Token) → FindsNoHint c e b → HasSpentHint c e b d 0
@@ -83,6 +85,15 @@ module _ (c : Token) (b d : ℕ) (h : Searches c b d not_begun) (free : is_out w
         ∙ and_from (first_word g == first_word g && list_any (begins_at head) (spans_of m.state.back.area b (own_slot e))) _
         (and_from (first_word g == first_word g) _ (eq-eqb (first_word g) (first_word g) refl) there) right
 
+    -- it is there, and still when a block of it was claimed
+    pub there_behind : (n : Token) (its : List Entry) → Does e n its → is_out whats.Back c.out ≡ true → IsStanding c → Always n (λ s. IsThere (now s c).state.back.area b (own_slot c) head)
+    there_behind n its does out st s q =
+        let p = earlier e n its does s q in
+        let z = (hinted s p).seen in
+        let held : Always c (λ s. holds (now s c).state.gate c.number whats.Back ≡ true) = λ s q. (st s q).locks whats.Back ∙ out in
+        subst (λ (x : Area × ℕ). IsThere x.0 b x.1 head) (λ j. ((back_on c e [] tt r.runs held s p j).area, slot j))
+        (record { span = z.span; there = among_seen (now s e) head b (own_slot e) z; begins = z.begins })
+
     pub can_read : (course : Course) → course.bucket ≡ b → course.draw.value ≡ d → CanRead e course not_begun head 0
     can_read course u v = record {
       at = subst (λ (x : ℕ × ℕ). IsIn e x.0 x.1 not_begun head 0 0) (λ j. (sym u j, sym v j)) (record {
@@ -94,7 +105,7 @@ module _ (c : Token) (b d : ℕ) (h : Searches c b d not_begun) (free : is_out w
         seen = λ s q. (hinted s q).seen;
         waits = waits_none e r.stands.prepared;
       });
-      hint = λ o. absurd (both_ways (is_out whats.Back c.out) free (ap (is_out whats.Back) (sym r.stands.out) ∙ o));
+      hint = hint_on c e [] tt r.runs b d not_begun h r.stands.owes r.stands.out knows;
     }
 
     module _ (n : Token) where

@@ -14,7 +14,13 @@ pub mod Spent
 pub mod BucketPages
 pub mod Hinting
 pub mod Entering
+pub mod HeldHint
 pub mod Looking
 pub mod NoneThere
 pub mod Making
 pub mod Taking
+pub mod Options
+pub mod Beside
+pub mod Joined
+pub mod Begun
+mod Counts

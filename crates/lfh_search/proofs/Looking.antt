@@ -52,7 +52,7 @@ hand_agrees s n b addr m k r h = record {
 }
 
 -- the hint that a place owes is paid
-paid_one : (out : Bool) (b t u hint : ℕ) (owes : List Owed) → out ≡ true → owes ≡ [] → u ≡ t → paid_off (hint_at b u) (owed_by_place out b t hint owes) ≡ []
+pub paid_one : (out : Bool) (b t u hint : ℕ) (owes : List Owed) → out ≡ true → owes ≡ [] → u ≡ t → paid_off (hint_at b u) (owed_by_place out b t hint owes) ≡ []
 paid_one out b t u hint owes o p e = (λ j. paid_off (hint_at b (e j)) (owed_by_place (o j) b t hint (p j))) ∙ (let q = eq-eqb (118 + 16 * b + t) (118 + 16 * b + t) refl in rw q refl)
 
 module _ (c c1 : Token) (back : Kept) (course : Course) (f : Search) (lost : ℕ) (u : IsUnder c back course f lost) (st : IsStanding c) (r : Option ℕ) (h : ReadsHint c c1 course.bucket r) where

@@ -64,7 +64,7 @@ module _ (back : Kept) (sound : IsSound back) (b t : ℕ) where
   not_zero : (x : Span) → IsOneOf x (spans_of (area_of back) b t) → x.first ≡ 0 → ⊥
   not_zero x i e =
       let p = in_filter (is_span_of b t) (area_of back).spans x i in
-      let l = low_in back.region.reserved back.words 0 (length back.words) (runs_of back.words) sound.used sound.whole x p.0 (mine_parts b t x p.1).0 in
+      let l = low_in (area_of back).reserved back.words 0 (length back.words) (runs_of back.words) sound.used sound.whole x p.0 (mine_parts b t x p.1).0 in
       omega (arith, l, e)
 
   pub none_there : (r : SpanHistory) → HintsNameSpans (area_of back) r → hint_word (area_of back) r b t ≡ 0 → (x : Span) → IsOneOf x (spans_of (area_of back) b t) → ⊥

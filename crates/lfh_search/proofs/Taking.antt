@@ -113,7 +113,7 @@ module _ (c e : Token) (what : What) (r : Reveals c e (entry c.number (acts.Take
 
 ---- Back is taken behind a spent first pass
 
-read_none : (f : Search) (x : Stage) → f.stage ≡ x → (as_pass_at f AtHint).read ≡ [] → x ≡ AtHint → (as_pass f).read ≡ []
+pub read_none : (f : Search) (x : Stage) → f.stage ≡ x → (as_pass_at f AtHint).read ≡ [] → x ≡ AtHint → (as_pass f).read ≡ []
 read_none f x e z w = ap (λ (y : Stage). (as_pass_at f y).read) (e ∙ w) ∙ z
 
 pub spent_goes_under : SpentGoesUnder

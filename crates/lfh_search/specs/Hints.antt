@@ -4,7 +4,7 @@ use Rattle.heap_model.specs.declared.Act.{Act}
 use Rattle.heap_model.specs.declared.Act.TheVariants as acts
 use Rattle.heap_model.specs.Buckets.{words_in_use, block_address}
 use Rattle.heap_model.specs.CallState.{Search, AtHint}
-use Rattle.heap_gate.specs.Token.{Token}
+use Rattle.heap_gate.specs.Token.{Token, Always, now}
 use Rattle.heap_gate.specs.Calls.{Runs, Stands, stance}
 use Rattle.lfh_claims.specs.Search.{own_slot}
 use Rattle.lfh_search.specs.declared.hint.Found.{Found}
@@ -13,6 +13,7 @@ use Rattle.lfh_search.specs.declared.hint.First.TheVariants.{Claimed, Spent}
 use Rattle.lfh_search.specs.Acts.{by, AreReadings, losses, AreDry}
 use Rattle.lfh_search.specs.Standing.{key}
 use Rattle.lfh_search.specs.Results.{Searches, HasPlaced}
+use Rattle.lfh_search.specs.Passes.{IsThere}
 
 -- Why a caller goes on under Back, by its own acts: the hint was empty, each word in use of the subsegment that it read first was dry, or eight claims
 -- were lost.
@@ -48,3 +49,8 @@ pub record HasFound (old new : Token) (b : ℕ) (f : Found) : Type 0 where
 abbrev pub HintSearched : Token → Token → ℕ → ℕ → First → Type 0
 HintSearched old new b d (Claimed f) = HasFound old new b f
 HintSearched old new b d (Spent lost) = HasSpentHint old new b d lost
+
+-- the holder of Back finds the block in a subsegment that is there
+abbrev pub IsOfHint : Token → Token → ℕ → First → Type 0
+IsOfHint old new b (Claimed f) = Always new (λ s. IsThere (now s old).state.back.area b (own_slot old) f.head)
+IsOfHint old new b (Spent lost) = Unit {0}

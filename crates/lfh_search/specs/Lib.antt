@@ -7,4 +7,5 @@ pub mod Readings
 pub mod Hints
 pub mod Passes
 pub mod Under
+pub mod Both
 pub mod Laws

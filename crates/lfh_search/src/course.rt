@@ -1,11 +1,21 @@
 //! What a bucket and a draw fix of a search.
-ghost use Rattle.std.specs.Prelude.{◌≡◌, ◌+◌, ◌<◌, ◌==◌, if◌then◌else◌};
+ghost use Rattle.std.specs.Prelude.{◌≡◌, ◌+◌, ◌-◌, ◌*◌, ◌%◌, ◌^◌, ◌<◌, ◌==◌, min, if◌then◌else◌};
+ghost use Rattle.heap_model.specs.Buckets.{block_count};
 ghost use Rattle.lfh_buckets.specs.Blocks.{IsBucket};
 ghost use Rattle.lfh_search.specs.Courses.{IsCourse};
 
 use heap_model::WORD_BITS;
-use lfh_buckets::{count, valid_bits};
 use random_pick::Draw;
+
+/// How many blocks a subsegment of each bucket has, from bucket 1 on. A search looks it up and divides nothing.
+const COUNTS: [u8; 128] = [
+    252, 126, 84, 63, 50, 42, 36, 31, 28, 25, 22, 21, 19, 18, 16, 15, 60, 56, 53, 51, 48, 46, 44,
+    42, 40, 39, 37, 36, 35, 34, 32, 31, 30, 30, 29, 28, 27, 26, 26, 25, 24, 24, 23, 23, 22, 22, 21,
+    21, 20, 20, 20, 19, 19, 18, 18, 18, 17, 17, 17, 17, 16, 16, 16, 15, 60, 56, 53, 51, 48, 46, 44,
+    42, 40, 39, 37, 36, 35, 34, 33, 31, 30, 28, 26, 25, 24, 23, 22, 21, 20, 19, 18, 18, 17, 17, 16,
+    15, 60, 56, 53, 51, 48, 46, 44, 42, 40, 39, 37, 36, 35, 34, 33, 31, 30, 28, 26, 25, 24, 23, 22,
+    21, 20, 19, 18, 18, 17, 17, 16, 15,
+];
 
 /// Where the searches for a bucket by a draw read first, and which bits count: worked out once.
 #[derive(Clone, Copy, Debug)]
@@ -29,20 +39,55 @@ impl Course {
         ensures bucket { result.bucket ≡ bucket }
         ensures draw { result.draw ≡ draw }
     {
-        let words = count(bucket).div_ceil(WORD_BITS);
+        let blocks = blocks_of(bucket);
+        let words = blocks.div_ceil(WORD_BITS);
         Course {
             bucket,
             draw,
             bit: draw.value % WORD_BITS,
-            first: draw.value / WORD_BITS % words,
+            first: cyclic(draw.value / WORD_BITS, words),
             words,
             valid: [
-                valid_bits(bucket, 0),
-                valid_bits(bucket, 1),
-                valid_bits(bucket, 2),
-                valid_bits(bucket, 3),
+                bits_of(blocks, 0),
+                bits_of(blocks, 1),
+                bits_of(blocks, 2),
+                bits_of(blocks, 3),
             ],
         }
+    }
+}
+
+/// How many blocks a subsegment of a bucket has.
+fn blocks_of(bucket: u8) -> u32
+    requires { IsBucket bucket }
+    ensures { result ≡ block_count bucket }
+{
+    u32::from(COUNTS[usize::from(bucket) - 1])
+}
+
+/// The remainder of a number by how many words are in use, which mostly is a power of 2.
+fn cyclic(number: u32, words: u32) -> u32
+    requires { 0 < words }
+    ensures { result ≡ number % words }
+{
+    match words {
+        1 => 0,
+        2 => number % 2,
+        4 => number % 4,
+        _ => number % words,
+    }
+}
+
+/// The bits of a word, of so many blocks in all, that stand for blocks.
+fn bits_of(blocks: u32, word: u32) -> u64
+    requires { word < 4 }
+    ensures { result ≡ 2 ^ (min 64 (blocks - 64 * word)) - 1 }
+{
+    let here = blocks.saturating_sub(64 * word);
+    if here >= 64 {
+        u64::MAX
+    } else {
+        (1 << here) - 1
     }
 }
 

@@ -5,6 +5,7 @@
 //! back end's lock, in all subsegments of the bucket and of the caller's slot.
 #![tactic(auto)]
 
+mod both;
 mod course;
 mod hint;
 pub mod laws;
@@ -12,7 +13,8 @@ mod pass;
 mod reading;
 mod under;
 
+pub use both::search_under_both;
 pub use course::Course;
-pub use hint::{First, Found, search_hint};
+pub use hint::{First, Found, search_hint, search_hint_under_back};
 pub use pass::{Pass, read_all};
 pub use under::{Under, search_again, search_under_back};

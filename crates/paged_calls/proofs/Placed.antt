@@ -160,7 +160,7 @@ module _ (c : Token) (flags : Flags) (back : Kept) (n : ℕ) (h : HoldsBack c (c
 
   module _ (first : ℕ) (fits : Some first ≡ back_place (area_of back) back.limits.segments (pages_of n)) where
     abbrev list : List Act
-    list = block_acts back.region.reserved first n
+    list = block_acts (area_of back).reserved first n
 
     abbrev pub block_token : Token
     block_token = with_all c list
@@ -181,10 +181,10 @@ module _ (c : Token) (flags : Flags) (back : Kept) (n : ℕ) (h : HoldsBack c (c
     block_state s q = ap (λ (m : Configuration). m.state) (now_all s c list) ∙ (leads_now s q).state
 
     pub block_added : HasAdded c block_token list
-    block_added = added_all c list (block_no_begin back.region.reserved first n)
+    block_added = added_all c list (block_no_begin (area_of back).reserved first n)
 
     pub block_room : length block_token.prepared < 16
-    block_room = let a = length_all c list in let b = block_few back.region.reserved first n in let d = ap length h.serving.prepared in omega (arith, a, b, d)
+    block_room = let a = length_all c list in let b = block_few (area_of back).reserved first n in let d = ap length h.serving.prepared in omega (arith, a, b, d)
 
     pub block_out : block_token.out ≡ c.out
     block_out = out_all c list
@@ -202,7 +202,7 @@ module _ (c : Token) (flags : Flags) (back : Kept) (n : ℕ) (h : HoldsBack c (c
       behind = refl;
       status = ap InHand (sym number);
       inside = block_added.steady.inside ∙ h.serving.inside;
-      whole = block_whole c back.region.reserved first n;
+      whole = block_whole c (area_of back).reserved first n;
       begun = ap is_some (block_added.steady.call ∙ h.serving.call_is);
       hand = λ s q layer.
           let qc = setting_before_all s c list q in

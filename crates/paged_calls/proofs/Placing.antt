@@ -43,10 +43,10 @@ module _ (k : Token) (flags : Flags) (back : Kept) (n : ℕ) (h : HoldsBack k (c
     over_it = subst (λ (x : Token). HasHandedOver x d the_place n zero_it) et (over the_place new_here)
 
     abbrev list : List Act
-    list = block_acts back.region.reserved first n ++ (zeroing zero_it (4096 * first) n ++ acts.Give (4096 * first) n ∷ [])
+    list = block_acts (area_of back).reserved first n ++ (zeroing zero_it (4096 * first) n ++ acts.Give (4096 * first) n ∷ [])
 
     pub all_added : HasAdded k d list
-    all_added = added_then k the_token d (block_acts back.region.reserved first n) (zeroing zero_it (4096 * first) n ++ acts.Give (4096 * first) n ∷ []) (block_added k flags back n h st sound paged first fits) over_it.added
+    all_added = added_then k the_token d (block_acts (area_of back).reserved first n) (zeroing zero_it (4096 * first) n ++ acts.Give (4096 * first) n ∷ []) (block_added k flags back n h st sound paged first fits) over_it.added
 
     pub out_then : d.out ≡ back_slot ∷ []
     out_then = over_it.out_is ∙ (block_out k flags back n h st sound paged first fits ∙ h.serving.out_is)
@@ -66,5 +66,5 @@ module _ (k : Token) (flags : Flags) (back : Kept) (n : ℕ) (h : HoldsBack k (c
     pub placed_then : (b : Token) → HasGiven d b whats.Back (entry d.number (acts.GiveLock whats.Back) ∷ []) → HasPlaced k b addr n zero_it
     placed_then b g =
         subst (λ (x : ℕ). HasPlaced k b x n zero_it) (sym ea)
-        (placed_shows k b (block_acts back.region.reserved first n) (4096 * first) (256 * pages_of n) layers.Back (4096 * first) n zero_it whats.Back refl (block_no_begin back.region.reserved first n)
-        (block_shown back.region.reserved first n) (given_behind k d b whats.Back list [] all_added g out_then over_it.free))
+        (placed_shows k b (block_acts (area_of back).reserved first n) (4096 * first) (256 * pages_of n) layers.Back (4096 * first) n zero_it whats.Back refl (block_no_begin (area_of back).reserved first n)
+        (block_shown (area_of back).reserved first n) (given_behind k d b whats.Back list [] all_added g out_then over_it.free))

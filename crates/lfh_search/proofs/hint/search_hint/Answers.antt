@@ -1,57 +1,10 @@
-use Rattle.std.proofs.Common.{ℕ, ◌*◌, ◌<◌, sym, ap, ◌∙◌, subst, arith}
-use Rattle.heap_model.specs.declared.Opening.{Opening}
-use Rattle.heap_model.specs.Limits.{AreValid}
-use Rattle.heap_model.specs.Buckets.{block_count}
-use Rattle.heap_model.specs.CallState.{not_begun}
-use Rattle.lfh_search.specs.Results.{HasPlaced, IsBeaten}
-use Rattle.lfh_search.specs.Readings.{IsDried}
-use Rattle.lfh_search.proofs.Subsegment.{in_use}
-use Rattle.lfh_search.proofs.HintSearch.{may_hint, finds_none, slot, can_read, found, dries, beaten}
+use Rattle.std.proofs.lemmas.Bool.{both_ways}
+use Rattle.heap_model.specs.declared.What.TheVariants as whats
+use Rattle.heap_gate.specs.Token.{is_out}
 use Rattle.lfh_search.proofs.hint.search_hint.Goals as goal
 
-pub hint_of-requires-clause-may : goal.hint_of-requires-clause-may
-hint_of-requires-clause-may g c = may_hint c.args.c.now c.args.bucket c.args.draw.value c.requires.searches c.requires.free c.check.ensures.stands
+pub pass_from_hint-requires-clause-paid : goal.pass_from_hint-requires-clause-paid
+pass_from_hint-requires-clause-paid g c = λ o. absurd (both_ways (is_out whats.Back c.args.c.now.out) c.requires.free o)
 
-pub returns-in_default : goal.returns-in_default
-returns-in_default g c = finds_none c.args.c.now c.args.bucket c.args.draw.value c.requires.searches c.requires.free c.hint_of.new.c c.in_default.ensures.none
-
-pub read_subsegment-requires-clause-slot : goal.read_subsegment-requires-clause-slot
-read_subsegment-requires-clause-slot g c =
-    subst (λ (n : ℕ). n < 16) (sym (slot c.args.c.now c.args.bucket c.args.draw.value c.requires.searches c.requires.free c.hint_of.new.c c.in-Some.head c.in-Some.ensures.found)) c.requires.slot
-
-pub read_subsegment-requires-clause-can : goal.read_subsegment-requires-clause-can
-read_subsegment-requires-clause-can g c =
-    (not_begun, can_read c.args.c.now c.args.bucket c.args.draw.value c.requires.searches c.requires.free c.hint_of.new.c c.in-Some.head c.in-Some.ensures.found c.new.result c.new.ensures.bucket (ap (λ x. x.value) c.new.ensures.draw))
-
-pub block_at-requires-clause-head : goal.block_at-requires-clause-head
-block_at-requires-clause-head g c =
-    let v = subst AreValid c.limits-limits.ensures.limits c.limits-limits.ensures.valid in
-    let s = v.segments in
-    let f = c.in-Some.ensures.found in
-    let l : c.in-Some.head < 256 * c.args.heap.now.opening.limits.segments = subst (λ (o : Opening). c.in-Some.head < 256 * o.limits.segments) (f.runs.does.opening ∙ c.requires.table.1) f.small in
-    omega (arith, l, s)
-
-pub block_at-requires-clause-index : goal.block_at-requires-clause-index
-block_at-requires-clause-index g c =
-    let can = can_read c.args.c.now c.args.bucket c.args.draw.value c.requires.searches c.requires.free c.hint_of.new.c c.in-Some.head c.in-Some.ensures.found c.new.result c.new.ensures.bucket (ap (λ x. x.value) c.new.ensures.draw) in
-    subst (λ (b : ℕ). c.in-Claimed.index < block_count b) c.new.ensures.bucket (c.in-Claimed.ensures not_begun can).below
-
-pub returns-in-Claimed : goal.returns-in-Claimed
-returns-in-Claimed g c =
-    let can = can_read c.args.c.now c.args.bucket c.args.draw.value c.requires.searches c.requires.free c.hint_of.new.c c.in-Some.head c.in-Some.ensures.found c.new.result c.new.ensures.bucket (ap (λ x. x.value) c.new.ensures.draw) in
-    found c.args.c.now c.args.bucket c.args.draw.value c.requires.searches c.requires.free c.hint_of.new.c c.in-Some.head c.in-Some.ensures.found c.read_subsegment.new.c
-    (record { head = c.in-Some.head; index = c.in-Claimed.index; addr = c.block_at.result }) c.block_at.ensures
-    (subst (λ (b : ℕ). HasPlaced c.hint_of.new.c c.read_subsegment.new.c b c.in-Some.head c.in-Claimed.index) c.new.ensures.bucket (c.in-Claimed.ensures not_begun can))
-
-pub returns-in-Dry : goal.returns-in-Dry
-returns-in-Dry g c =
-    let can = can_read c.args.c.now c.args.bucket c.args.draw.value c.requires.searches c.requires.free c.hint_of.new.c c.in-Some.head c.in-Some.ensures.found c.new.result c.new.ensures.bucket (ap (λ x. x.value) c.new.ensures.draw) in
-    dries c.args.c.now c.args.bucket c.args.draw.value c.requires.searches c.requires.free c.hint_of.new.c c.in-Some.head c.in-Some.ensures.found c.read_subsegment.new.c
-    c.in-Dry.lost (in_use c.args.bucket c.requires.bucket).0
-    (subst (λ (x : ℕ × ℕ). IsDried c.hint_of.new.c c.read_subsegment.new.c x.0 x.1 not_begun c.in-Some.head 0 c.in-Dry.lost) (λ j. (c.new.ensures.bucket j, (c.new.ensures.draw j).value)) (c.in-Dry.ensures not_begun can))
-
-pub returns-in-Beaten : goal.returns-in-Beaten
-returns-in-Beaten g c =
-    let can = can_read c.args.c.now c.args.bucket c.args.draw.value c.requires.searches c.requires.free c.hint_of.new.c c.in-Some.head c.in-Some.ensures.found c.new.result c.new.ensures.bucket (ap (λ x. x.value) c.new.ensures.draw) in
-    beaten c.args.c.now c.args.bucket c.args.draw.value c.requires.searches c.requires.free c.hint_of.new.c c.in-Some.head c.in-Some.ensures.found c.read_subsegment.new.c
-    (subst (λ (x : ℕ × ℕ). IsBeaten c.hint_of.new.c c.read_subsegment.new.c x.0 x.1 0) (λ j. (c.new.ensures.bucket j, (c.new.ensures.draw j).value)) (c.in-Beaten.ensures not_begun can))
+pub pass_from_hint-requires-clause-hint : goal.pass_from_hint-requires-clause-hint
+pass_from_hint-requires-clause-hint g c = λ o. absurd (both_ways (is_out whats.Back c.args.c.now.out) c.requires.free o)
