@@ -7,3 +7,4 @@ mod Words
 mod Parts
 mod Dropped
 mod AtOnce
+mod FrontFound

@@ -4,11 +4,11 @@ ghost use Rattle.heap_model.specs.declared.Call.{Call as ACall};
 ghost use Rattle.call_parts.specs.Calls.{IsServing};
 ghost use Rattle.paged_calls.specs.Parts.{Drops};
 ghost use Rattle.address_calls.specs.Answers.{MeetsOn};
-ghost use Rattle.address_calls.specs.Finds.{IsFound, IsOfVs};
+ghost use Rattle.address_calls.specs.Finds.{IsFree, IsFound, IsOfVs};
 ghost use Rattle.address_calls.specs.Tagged.{KnowsTag, DropsAtOnce, DropsAsFront};
 
 use crate::blocks::say_none;
-use crate::look::{Found, look_up};
+use crate::look::{Found, find_front, look_up};
 use call_parts::State;
 use front_calls::drop_front;
 use heap_gate::{Caller, Heap};
@@ -23,6 +23,22 @@ use vs_layer::Vs;
 pub fn drop_block(heap: &Heap<State>, c: &mut Caller<State>, addr: u64) -> Result<bool, Busy>
     requires table { (c.old.table ≡ heap.now.table) × (c.old.opening ≡ heap.now.opening) }
     requires serving { (call : ACall) × IsServing c.old call [] }
+    ensures dropped { IfOk result (λ did. Drops c.old c.new addr did) }
+    ensures busy { IfErr result (λ b. MeetsOn c.old c.new addr b) }
+    ensures tagged { KnowsTag c.old addr → DropsAtOnce c.old c.new addr result }
+{
+    match find_front(heap, c, addr) {
+        Some(tag) => Ok(drop_front(heap, c, tag, addr)),
+        None => drop_elsewhere(heap, c, addr),
+    }
+}
+
+/// The same by a look at each layer, which takes the locks. What holds the states of layers stays out of the way of a free in the
+/// front end.
+#[inline(never)]
+fn drop_elsewhere(heap: &Heap<State>, c: &mut Caller<State>, addr: u64) -> Result<bool, Busy>
+    requires table { (c.old.table ≡ heap.now.table) × (c.old.opening ≡ heap.now.opening) }
+    requires serving { IsFree c.old }
     ensures dropped { IfOk result (λ did. Drops c.old c.new addr did) }
     ensures busy { IfErr result (λ b. MeetsOn c.old c.new addr b) }
     ensures tagged { KnowsTag c.old addr → DropsAtOnce c.old c.new addr result }

@@ -1,5 +1,5 @@
 //! Which layer the block at an address would be of.
-ghost use Rattle.std.specs.Prelude.{◌≡◌, ◌*◌, ◌/◌, ◌%◌, ◌+◌, ◌<◌, ◌≤◌, [], ◌∷◌, None, OnOk, IfOk, IfErr};
+ghost use Rattle.std.specs.Prelude.{◌≡◌, ◌*◌, ◌/◌, ◌%◌, ◌+◌, ◌<◌, ◌≤◌, [], ◌∷◌, None, OnOk, IfOk, IfErr, IfSome, IfNone};
 ghost use Rattle.heap_model.specs.declared.Act.TheVariants.{TakeLock, GiveLock};
 ghost use Rattle.heap_model.specs.declared.What.TheVariants as whats;
 ghost use Rattle.call_parts.specs.Entries.{HasAdded};
@@ -34,6 +34,27 @@ pub enum Found {
     Large(Large),
     /// No block begins at such an address.
     Nowhere,
+}
+
+/// The tag of the subsegment that has the page of an address, with no lock. It is `None` where no block can begin there, where no
+/// subsegment has the page, or where its maker has still to store the tag.
+pub(crate) fn find_front(heap: &Heap<State>, c: &mut Caller<State>, addr: u64) -> Option<Tag>
+    requires table { (c.old.table ≡ heap.now.table) × (c.old.opening ≡ heap.now.opening) }
+    requires serving { IsFree c.old }
+    ensures added { HasAdded c.old c.new [] }
+    ensures free { IsFree c.new }
+    ensures front { IfSome result (IsFront c.new addr) }
+    ensures none { IfNone result (KnowsTag c.old addr → KnowsTag c.new addr) }
+{
+    let limits = heap.limits();
+    let page = addr / PAGE_BYTES;
+    if page >= u64::from(SEGMENT_PAGES * limits.segments) || addr % GRANULE_BYTES != 0 {
+        return None;
+    }
+    c.check();
+    let told = tag_of(heap, c, page as u32);
+    c.check();
+    told
 }
 
 /// Finds out which layer the block at an address would be of, and takes the locks that this layer's parts ask. Each lock is tried

@@ -28,7 +28,7 @@ use Rattle.fall_calls.specs.Both.{HasBlock, IsToGive, gives}
 use Rattle.fall_calls.specs.Falls.{FallsToVs}
 use Rattle.fall_calls.proofs.Falling as fall
 use Rattle.fall_calls.proofs.HandedTwo.{back_still}
-use Rattle.fall_calls.proofs.Resting.{gives_quiet}
+use Rattle.fall_calls.proofs.Resting.{gives_quiet, gives_no_try}
 
 module _ (c t : Token) (vs later : VsKept) (back : Kept) (n addr : ℕ) (zero_it vs_last : Bool) (v : FallsToVs c vs back n zero_it vs_last) (st : IsStanding c) (x : HasHeld c t vs later n addr) where
   abbrev place : Act
@@ -101,4 +101,4 @@ module _ (c t : Token) (vs later : VsKept) (back : Kept) (n addr : ℕ) (zero_it
   pub placed : (f : Token) → HasEnded t f ((zeroing zero_it addr n ++ acts.Give addr n ∷ []) ++ gives vs_last) [] → HasPlaced c f n addr zero_it
   placed f e =
       let quiet = gives_quiet vs_last in
-      placed_shows c f (place ∷ []) (gives vs_last) x.run.first x.run.count addr n zero_it x.at refl refl quiet.1 quiet.0 (ended_then c t f (place ∷ []) ((zeroing zero_it addr n ++ acts.Give addr n ∷ []) ++ gives vs_last) [] gap_added e)
+      placed_shows c f (place ∷ []) (gives vs_last) x.run.first x.run.count addr n zero_it x.at refl refl refl quiet.1 (gives_no_try vs_last) quiet.0 (ended_then c t f (place ∷ []) ((zeroing zero_it addr n ++ acts.Give addr n ∷ []) ++ gives vs_last) [] gap_added e)

@@ -9,7 +9,7 @@ use Rattle.heap_model.specs.declared.What.TheVariants as whats
 use Rattle.heap_model.specs.Runs.{Run}
 use Rattle.heap_model.specs.Shape.{zeroing}
 use Rattle.heap_model.specs.State.{Setting, State, Area, live_size}
-use Rattle.backend_fit.specs.Kept.{Kept}
+use Rattle.backend_fit.specs.Kept.{Kept, area_of}
 use Rattle.call_laws.specs.Spans.{vs_acts, with_vs_block}
 use Rattle.backend_fit.specs.Sound.{IsSound}
 use Rattle.backend_fit.proofs.Goes.{same_segment}
@@ -20,14 +20,14 @@ use Rattle.call_parts.proofs.Serving.{within}
 use Rattle.call_parts.proofs.Tokens.{ended_then}
 use Rattle.vs_calls.specs.Parts.{HasRange, HasHeldAnew, HasNoRange, HasPlaced, span_acts}
 use Rattle.vs_calls.proofs.SpanMay.{SpanLeads, HoldsForSpan, two_prepared, none_now, fits_now, pages_now, reserved_now}
-use Rattle.vs_calls.proofs.NewPlaced.{spanned, new_here, here_added, here_out, here_few, here_back, here_limits, span_no_begin, span_shown}
+use Rattle.vs_calls.proofs.NewPlaced.{spanned, new_here, here_added, here_out, here_few, here_back, here_limits, span_no_begin, span_no_try, span_shown}
 use Rattle.vs_calls.proofs.InHand.{HasNewBlock}
 use Rattle.vs_calls.proofs.InHand as hand
 use Rattle.vs_calls.proofs.Shapes.{placed_shows}
 use Rattle.fall_calls.specs.Both.{HasBlock, gives}
 use Rattle.fall_calls.specs.Falls.{FallsToVs, HasNoRoom}
 use Rattle.fall_calls.proofs.HandedTwo.{vs_out, back_out}
-use Rattle.fall_calls.proofs.Resting.{gives_quiet}
+use Rattle.fall_calls.proofs.Resting.{gives_quiet, gives_no_try}
 use Rattle.fall_calls.proofs.Falling.{small_size}
 use Rattle.fall_calls.proofs.NewSpanLaw.{low, falling_into_span}
 
@@ -45,7 +45,7 @@ module _ (c t : Token) (vs later : VsKept) (back more : Kept) (n : ℕ) (e : Has
 
 module _ (c : Token) (vs : VsKept) (back : Kept) (n : ℕ) (zero_it vs_last : Bool) (x : FallsToVs c vs back n zero_it vs_last) (st : IsStanding c) (sound : IsSound back) where
   -- the entries of a span, which lies in a reserved segment
-  leads : (first : ℕ) (r : Run) → HasRange vs back n first r → Always c (λ s. SpanLeads s (now s c) c.number (span_acts back.region.reserved first n r) first n r)
+  leads : (first : ℕ) (r : Run) → HasRange vs back n first r → Always c (λ s. SpanLeads s (now s c) c.number (span_acts (area_of back).reserved first n r) first n r)
   leads first r g s q =
       let m = now s c in
       let a = m.state.back.area in
@@ -90,7 +90,7 @@ module _ (c : Token) (vs : VsKept) (back : Kept) (n : ℕ) (zero_it vs_last : Bo
     block = new_here c t vs later back more n addr falls_holds h
 
     abbrev list : List Act
-    list = span_acts back.region.reserved h.first n h.run
+    list = span_acts (area_of back).reserved h.first n h.run
 
     pub added : HasAdded c t list
     added = here_added c t vs later back more n addr falls_holds h
@@ -118,6 +118,6 @@ module _ (c : Token) (vs : VsKept) (back : Kept) (n : ℕ) (zero_it vs_last : Bo
     placed d e =
         let quiet = gives_quiet vs_last in
         let given : List Act = zeroing zero_it addr n ++ acts.Give addr n ∷ [] in
-        placed_shows c d list (gives vs_last) h.run.first h.run.count addr n zero_it h.at (span_no_begin back.region.reserved h.first n h.run) (span_shown back.region.reserved h.first n h.run)
-        quiet.1 quiet.0
+        placed_shows c d list (gives vs_last) h.run.first h.run.count addr n zero_it h.at (span_no_begin (area_of back).reserved h.first n h.run) (span_no_try (area_of back).reserved h.first n h.run)
+        (span_shown (area_of back).reserved h.first n h.run) quiet.1 (gives_no_try vs_last) quiet.0
         (subst (λ (l : List Act). HasEnded c d l []) (sym (append_assoc list given (gives vs_last))) (ended_then c t d list (given ++ gives vs_last) [] added e))

@@ -2,12 +2,14 @@
 use Rattle.std.proofs.Common.{◌≡◌, ℕ, Bool, true, false, List, [], Option, Some, refl, sym, ◌∙◌}
 use Rattle.heap_model.specs.declared.Act.{Act}
 use Rattle.heap_model.specs.declared.Call.{Call}
+use Rattle.heap_model.specs.declared.What.TheVariants as whats
 use Rattle.heap_model.specs.Shape.{shape_of}
 use Rattle.heap_gate.specs.Token.{Token}
 use Rattle.call_parts.specs.Entries.{HasEnded}
 use Rattle.call_parts.proofs.Serving.{none_begins}
 use Rattle.small_calls.specs.Fronts.{IsResting}
 use Rattle.small_calls.specs.GoingOn.{HasSearched}
+use Rattle.vs_calls.specs.Tries.{tries_none}
 use Rattle.fall_calls.specs.Both.{gives}
 
 pub rests_then : (c f : Token) (call : Call) (out : List ℕ) (rest : List Act) → HasSearched c call out → HasEnded c f rest [] → IsResting f call []
@@ -26,7 +28,11 @@ rests_then c f call out rest x z =
       owes = y.owes ∙ x.owes;
     }
 
--- giving locks back shows nothing
+-- giving locks back tries none, and shows nothing
+pub gives_no_try : (vs_last : Bool) → tries_none whats.Back (gives vs_last) ≡ true
+gives_no_try true = refl
+gives_no_try false = refl
+
 pub gives_quiet : (vs_last : Bool) → (shape_of (gives vs_last) ≡ []) × (none_begins (gives vs_last) ≡ true)
 gives_quiet true = (refl, refl)
 gives_quiet false = (refl, refl)

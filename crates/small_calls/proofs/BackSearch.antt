@@ -23,13 +23,14 @@ use Rattle.call_parts.proofs.Joining.{goes_does, goes_then, setting_before}
 use Rattle.call_parts.proofs.Serving.{none_begins, none_begins-append, shape-append}
 use Rattle.small_calls.specs.Fronts.{HasOne}
 use Rattle.small_calls.specs.Ways.{KeepsVs}
-use Rattle.small_calls.specs.Late.{tries_none}
+use Rattle.vs_calls.specs.Tries.{tries_none}
+use Rattle.vs_calls.proofs.Tries.{none-append, none_zeroed}
 use Rattle.small_calls.specs.Under.{IsGivenUnderBack, SearchesOn, IsServedUnderBack}
 use Rattle.small_calls.proofs.Found.{same_by}
 use Rattle.small_calls.proofs.Shown.{readings_shown, zeros_begun}
 use Rattle.small_calls.proofs.BackHeld.{vs_kept}
 use Rattle.small_calls.proofs.MadeLeft.{served_left}
-use Rattle.small_calls.proofs.Tries.{none-append, none_read, none_zeroed, none_came}
+use Rattle.small_calls.proofs.Tries.{none_read, none_came}
 
 -- the acts that make a subsegment are not shown
 makes_shown : (a : Area) (first b t : ℕ) → (shape_of (makes a first b t) ≡ []) × (none_begins (makes a first b t) ≡ true)

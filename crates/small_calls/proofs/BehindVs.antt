@@ -90,6 +90,11 @@ module _ (a c : Token) (vs : VsKept) (n b d lost : ℕ) (zero_it : Bool) (x : Is
         let g = y.runs.agrees s q in let h : holds (now s c).state.gate c.number whats.Vs ≡ true = (st s (setting_before c m blocked goes_m s q)).locks whats.Vs ∙ vs_held in
         (g.vs h, g.spans h)) x.spent.keeps
 
+    pub goes_busy : (f : Token) → HasGiven m f whats.Vs (entry m.number (acts.GiveLock whats.Vs) ∷ []) → (rest : List Act) × GoesOn c f rest
+    goes_busy f g =
+        let free = y.stands.free ∙ (x.spent.spent.stands.free ∙ x.asking.serving.free) in
+        (blocked ++ gives, goes_then c m f blocked gives goes_m (ended_given m f whats.Vs [] gives g out_m free).added.goes)
+
     pub busy_with : (f : Token) → HasGiven m f whats.Vs (entry m.number (acts.GiveLock whats.Vs) ∷ []) → ForCall a (λ call. IsBusyWithVs a f call b d lost e)
     busy_with f g = λ call is.
         let s = x.spent.spent.stands in let w = y.stands in let v = x.asking.serving in
@@ -138,6 +143,11 @@ module _ (a c : Token) (vs : VsKept) (n b d lost : ℕ) (zero_it : Bool) (x : Is
 
     pub keeps_p : KeepsVs m vs
     keeps_p = y.keeps vs vs_held x.spent.keeps
+
+    pub goes_placed : (f : Token) → HasGiven m f whats.Vs (entry m.number (acts.GiveLock whats.Vs) ∷ []) → (rest : List Act) × GoesOn c f rest
+    goes_placed f g =
+        let gives : List Act = acts.GiveLock whats.Vs ∷ [] in
+        (y.added ++ gives, goes_then c m f y.added gives y.goes (ended_given m f whats.Vs [] gives g y.rests.out_is y.rests.free).added.goes)
 
     pub placed_p : (f : Token) → HasGiven m f whats.Vs (entry m.number (acts.GiveLock whats.Vs) ∷ []) → Places a f addr
     unfolding has_spent

@@ -24,7 +24,7 @@ use Rattle.vs_calls.specs.Blocks.{IsForVs}
 use Rattle.vs_calls.specs.Parts.{IsPlacing, IsRefused}
 use Rattle.paged_calls.specs.Parts.{ForCall, IsAllocating, Places}
 use Rattle.small_calls.specs.Fronts.{IsAsking}
-use Rattle.small_calls.specs.Ways.{AsksUnderVs, IsInactive, IsSpent, IsSpentUnderVs}
+use Rattle.small_calls.specs.Ways.{AsksUnderVs, IsInactive, IsSpentUnderVs}
 use Rattle.small_calls.specs.ByVs.{HasNoGap, IsRefusedByVs, TriesSmall}
 use Rattle.small_calls.specs.declared.by_vs.SmallTry.{SmallTry}
 use Rattle.small_calls.specs.declared.by_vs.SmallTry.TheVariants as tries
@@ -117,7 +117,7 @@ module _ (a m f : Token) (n : ℕ) (zero_it : Bool) (x : IsInactive a m n zero_i
   refused_before (alloc_nos.Busy busy) (inl r) = inl (busy_behind a m f busy whats.Vs [] x.goes refl refl x.call r)
   refused_before (alloc_nos.Busy busy) (inr r) = inr (gap_before r.0, busy_behind a m f busy whats.Back [] x.goes refl refl x.call r.1)
 
-  spent_before : (b d lost : ℕ) (vs : VsKept) → IsSpentUnderVs m f n zero_it b d lost vs → IsSpentUnderVs a f n zero_it b d lost vs
+  pub spent_before : (b d lost : ℕ) (vs : VsKept) → IsSpentUnderVs m f n zero_it b d lost vs → IsSpentUnderVs a f n zero_it b d lost vs
   spent_before b d lost vs s = record {
     begun = s.begun;
     its = s.its;
@@ -128,17 +128,7 @@ module _ (a m f : Token) (n : ℕ) (zero_it : Bool) (x : IsInactive a m n zero_i
     spent = s.spent;
   }
 
-  front_before : (b d lost : ℕ) → IsSpent m f n zero_it b d lost → IsSpent a f n zero_it b d lost
-  front_before b d lost s = record {
-    begun = s.begun;
-    goes = goes_then a m s.begun [] [] x.goes s.goes;
-    call = s.call ∙ x.call;
-    asking = s.asking;
-    spent = s.spent;
-  }
-
   pub tried_before : (r : SmallTry) → TriesSmall m f n zero_it r → TriesSmall a f n zero_it r
   tried_before (tries.Placed addr) p = placed_before addr p
   tried_before (tries.Refused why) p = refused_before why p
-  tried_before (tries.Spent b lost draw) p = (p.0, front_before b draw.value lost p.1)
   tried_before (tries.SpentUnderVs vs b lost draw) p = (p.0, spent_before b draw.value lost vs p.1)

@@ -1,9 +1,10 @@
 -- An allocation that holds no lock and has spent its first pass, through both searches under locks.
-use Rattle.std.proofs.Common.{◌≡◌, ◌≢◌, ℕ, ◌+◌, Bool, true, List, [], ◌∷◌, ◌++◌, refl, sym, ap, ◌∙◌, subst, append_assoc, inr}
+use Rattle.std.proofs.Common.{◌≡◌, ◌≢◌, ℕ, ◌+◌, Bool, true, List, [], ◌∷◌, ◌++◌, Some, refl, sym, ap, ◌∙◌, subst, append_assoc, inr}
 use Rattle.heap_model.specs.declared.Act.{Act}
 use Rattle.heap_model.specs.declared.Act.TheVariants as acts
 use Rattle.heap_model.specs.declared.Busy.{Busy}
 use Rattle.heap_model.specs.declared.Call.{Call}
+use Rattle.heap_model.specs.declared.Call.TheVariants as calls
 use Rattle.heap_model.specs.declared.What.{What}
 use Rattle.heap_model.specs.declared.What.TheVariants as whats
 use Rattle.heap_model.specs.Shape.{shape_of}
@@ -12,7 +13,7 @@ use Rattle.heap_gate.specs.Token.{Token}
 use Rattle.heap_gate.specs.Calls.{Does}
 use Rattle.lfh_search.specs.declared.course.Course.{Course}
 use Rattle.call_parts.specs.Calls.{GoesOn, MeetsBusy}
-use Rattle.call_parts.proofs.Joining.{goes_does, goes_prepared, goes_then}
+use Rattle.call_parts.proofs.Joining.{goes_none, goes_does, goes_prepared, goes_then}
 use Rattle.call_parts.proofs.Serving.{none_begins, none_begins-append, shape-append}
 use Rattle.small_calls.specs.declared.no_room.BehindNoSpan.{BehindNoSpan}
 use Rattle.small_calls.specs.declared.no_room.BehindNoSpan.TheVariants as no_span
@@ -118,6 +119,19 @@ module _ (a c m : Token) (vs : VsKept) (back : Kept) (course : Course) (lost now
   gone_with f (no_span.ForVs now_vs later) y =
       for_vs_at a c m back course lost now_lost n zero_it (vs_slot ∷ []) w acts_before (goes_with a c vs n course.bucket course.draw.value lost zero_it x) (quiet_with a c vs n course.bucket course.draw.value lost zero_it x)
       (call_with_vs a c vs n course.bucket course.draw.value lost zero_it x) f now_vs later [] (back_slot ∷ vs_slot ∷ []) y
+
+  pub goes_behind : (f : Token) (r : BehindNoSpan) → SearchesAgain m f course.bucket n zero_it r → (rest : List Act) × GoesOn c f rest
+  goes_behind f r y =
+      let own_call = calls.Alloc n w.on.flags in
+      let here : m.call ≡ Some own_call = ap (λ (t : Token). t.call) w.none.prepared ∙ (w.none.stands.call ∙ w.on.call_is) in
+      let z = goes_again f r y own_call here in
+      let first : List Act = (acts.TakeLock whats.Back ∷ w.none.its) ++ acts.NoSpan course.bucket ∷ [] in
+      (first ++ z.0, goes_then c m f first z.0 (goes_m c c m back course lost now_lost n zero_it (vs_slot ∷ []) w [] (goes_none c) (refl, refl) refl) z.1)
+    where
+      goes_again : (f : Token) (r : BehindNoSpan) → SearchesAgain m f course.bucket n zero_it r → (call : Call) → m.call ≡ Some call → (rest : List Act) × GoesOn m f rest
+      goes_again f (no_span.Busy e) y call is = absurd y
+      goes_again f (no_span.Placed addr) y call is = let z = y call is in (z.1.added, z.1.goes)
+      goes_again f (no_span.ForVs now_vs later) y call is = (y.its, y.goes)
 
   pub tables_with : (m.table ≡ c.table) × (m.opening ≡ c.opening)
   tables_with =

@@ -1,5 +1,5 @@
 -- How late the ways of an allocation try the locks, one part behind another.
-use Rattle.std.proofs.Common.{◌≡◌, ℕ, Bool, true, List, [], ◌∷◌, ◌++◌, Some, None, refl, sym, ap, ◌∙◌, subst, inl}
+use Rattle.std.proofs.Common.{◌≡◌, ℕ, Bool, true, List, [], ◌∷◌, ◌++◌, Some, refl, sym, ap, ◌∙◌, subst, inl}
 use Rattle.heap_model.specs.declared.Act.{Act}
 use Rattle.heap_model.specs.declared.Act.TheVariants as acts
 use Rattle.heap_model.specs.declared.Call.{Call}
@@ -19,13 +19,10 @@ use Rattle.lfh_search.specs.declared.course.Course.{Course}
 use Rattle.lfh_search.specs.Hints.{HasSpentHint, IsSpentBy}
 use Rattle.call_parts.specs.Calls.{GoesOn, all_own}
 use Rattle.call_parts.proofs.Joining.{goes_none, goes_does, goes_then}
-use Rattle.small_calls.specs.Late.{HasSpentFirst, HasSeenActive, TriesNeither, TriesLate, HasTriedLate, GoesLate, IsLate, IsLateTry, IsLateCall}
+use Rattle.small_calls.specs.Late.{HasSpentFirst, TriesNeither, TriesLate, HasTriedLate, GoesLate, IsLateCall}
 use Rattle.small_calls.specs.Ways.{IsSpent}
-use Rattle.small_calls.specs.ByVs.{TriesSmall}
 use Rattle.small_calls.specs.Served.{ServesSmall}
 use Rattle.small_calls.specs.GoingOn.{ComesUnderBack, IsWithoutRoom, SearchesWithVs, IsForVsAt}
-use Rattle.small_calls.specs.declared.by_vs.SmallTry.{SmallTry}
-use Rattle.small_calls.specs.declared.by_vs.SmallTry.TheVariants as tries
 use Rattle.small_calls.specs.declared.serving.SmallCall.{SmallCall}
 use Rattle.small_calls.specs.declared.serving.SmallCall.TheVariants as ends
 use Rattle.small_calls.specs.declared.spent.BehindSpent.{BehindSpent}
@@ -34,7 +31,8 @@ use Rattle.small_calls.specs.declared.no_room.BehindNoSpan.{BehindNoSpan}
 use Rattle.small_calls.specs.declared.no_room.BehindNoSpan.TheVariants as no_span
 use Rattle.small_calls.proofs.BehindHint.{goes_spent}
 use Rattle.small_calls.proofs.GoneBehind.{goes_m}
-use Rattle.small_calls.proofs.Tries.{none-append, none_read, behind_none, behind_more, behind_reason, behind_after, spent_by, spent_more, one_behind, one_before}
+use Rattle.vs_calls.proofs.Tries.{none-append, behind_none, behind_more, behind_reason, behind_after, one_behind, one_before}
+use Rattle.small_calls.proofs.Tries.{none_read, spent_by, spent_more}
 
 ---- What was added is one list
 
@@ -161,13 +159,6 @@ late_behind a m f b rest x g = record {
 pub one_bucket : (n b b' : ℕ) → bucket_of n ≡ Some b → bucket_of n ≡ Some b' → b ≡ b'
 one_bucket n b b' e f = let both : Some b ≡ Some b' = sym e ∙ f in (cc)
 
--- a bucket that was not active was not seen so
-pub inactive_late : (a m f : Token) (n b : ℕ) (zero_it : Bool) → bucket_of n ≡ Some b → (HasSeenActive a b → ⊥) → (r : SmallTry) → TriesSmall m f n zero_it r → IsLateTry a f n r
-inactive_late a m f n b zero_it e unseen (tries.Placed addr) y = λ k g h. absurd (unseen (subst (HasSeenActive a) (one_bucket n k b g e) h))
-inactive_late a m f n b zero_it e unseen (tries.Refused why) y = λ k g h. absurd (unseen (subst (HasSeenActive a) (one_bucket n k b g e) h))
-inactive_late a m f n b zero_it e unseen (tries.Spent k lost draw) y = tt
-inactive_late a m f n b zero_it e unseen (tries.SpentUnderVs vs k lost draw) y = λ h. unseen (subst (HasSeenActive a) (one_bucket n k b y.0 e) h)
-
 -- the whole of an allocation whose bucket was active
 pub late_call : (a c f : Token) (n b d lost : ℕ) (zero_it : Bool) (x : IsSpent a c n zero_it b d lost) → GoesLate c f b → bucket_of n ≡ Some b → (r : SmallCall) → ServesSmall a f n zero_it r → IsLateCall a f n r
 late_call a c f n b d lost zero_it x g e (ends.Placed addr) y = λ k is seen. subst (TriesLate a f) (one_bucket n b k e is) (late_from a c f n b d lost zero_it x g)
@@ -180,12 +171,3 @@ late_call a c f n b d lost zero_it x g e (ends.ForVs vs back) y = λ k is seen.
 late_call a c f n b d lost zero_it x g e (ends.ForVsFirst vs back) y = λ k is seen.
     let at : IsForVsAt a f vs back b n zero_it [] (back_slot ∷ vs_slot ∷ []) = subst (λ (j : ℕ). IsForVsAt a f vs back j n zero_it [] (back_slot ∷ vs_slot ∷ [])) (one_bucket n y.0 b y.1 e) y.2 in
     subst (HasTriedLate a f) (one_bucket n b k e is) (tried_from a c f n b d lost zero_it x g vs back [] (back_slot ∷ vs_slot ∷ []) at)
-
-pub unseen_late : (a f : Token) (n b : ℕ) → bucket_of n ≡ Some b → (HasSeenActive a b → ⊥) → (r : SmallCall) → IsLateCall a f n r
-unseen_late a f n b e unseen (ends.Placed addr) = λ k is seen. absurd (unseen (subst (HasSeenActive a) (one_bucket n k b is e) seen))
-unseen_late a f n b e unseen (ends.Refused why) = λ k is seen. absurd (unseen (subst (HasSeenActive a) (one_bucket n k b is e) seen))
-unseen_late a f n b e unseen (ends.ForVs vs back) = λ k is seen. absurd (unseen (subst (HasSeenActive a) (one_bucket n k b is e) seen))
-unseen_late a f n b e unseen (ends.ForVsFirst vs back) = λ k is seen. absurd (unseen (subst (HasSeenActive a) (one_bucket n k b is e) seen))
-
-pub no_bucket_late : (a f : Token) (n : ℕ) → bucket_of n ≡ None → IsLate a f n
-no_bucket_late a f n e b g h = let both : None ≡ Some b = sym e ∙ g in absurd (cc (both))

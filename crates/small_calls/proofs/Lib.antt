@@ -19,3 +19,4 @@ pub mod BehindVs
 pub mod GoneBehind
 pub mod Refusals
 pub mod Late
+pub mod Backs

@@ -14,7 +14,7 @@ use Rattle.claim_rule.specs.Entries.{entry}
 use Rattle.heap_gate.specs.Token.{Token, now}
 use Rattle.call_parts.specs.Calls.{GoesOn}
 use Rattle.small_calls.specs.Late.{HasSeenActive}
-use Rattle.small_calls.proofs.Tries.{one_before}
+use Rattle.vs_calls.proofs.Tries.{one_before}
 
 -- it stays so
 stays_by : (st : State) (k : CallState) (c : ℕ) (act : Act) (b : ℕ) → st.vs.active b ≡ true → (state_after st k c act).vs.active b ≡ true

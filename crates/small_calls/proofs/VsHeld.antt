@@ -30,9 +30,12 @@ use Rattle.call_parts.proofs.Tokens.{ended_given, ended_missed, makes}
 use Rattle.lfh_search.specs.Acts.{by}
 use Rattle.lfh_search.specs.Hints.{HasSpentHint}
 use Rattle.paged_calls.specs.Parts.{ForCall, Places}
+use Rattle.vs_calls.specs.Tries.{LeavesBack}
+use Rattle.vs_calls.proofs.Tries.{none-append}
 use Rattle.small_calls.specs.Fronts.{IsAsking, IsResting, HasGivenBlock, front_acts}
 use Rattle.small_calls.specs.Ways.{AsksUnderVs, KeepsVs, IsSpentWithVs}
 use Rattle.small_calls.proofs.Found.{drawing}
+use Rattle.small_calls.proofs.Tries.{front_neither}
 use Rattle.small_calls.proofs.Guarded.{read_left}
 use Rattle.small_calls.proofs.Shown.{IsShown, shown_then, served_shown, front_places}
 
@@ -96,6 +99,16 @@ module _ (c : Token) (vs : VsKept) (n b : ℕ) (zero_it : Bool) (h : AsksUnderVs
           owes = y.owes ∙ g.rests.owes;
         } in
         front_places c e h.asking.flags n b g.head g.index addr zero_it h.asking.zero_is g.at h.asking.serving.call_is (subst (IsShown c e) (append-nil acts_are) all) rests
+
+    pub given_leaves : (e : Token) → HasGiven d e whats.Vs (entry d.number (acts.GiveLock whats.Vs) ∷ []) → LeavesBack c e
+    given_leaves e x =
+        let z : HasEnded d e (acts.GiveLock whats.Vs ∷ []) [] = ended_given d e whats.Vs [] (acts.GiveLock whats.Vs ∷ []) x out_then g.rests.free in
+        let found : List Act = g.its ++ front_acts b g.head g.index n zero_it in
+        record {
+          added = found ++ acts.GiveLock whats.Vs ∷ [];
+          goes = goes_then c d e found (acts.GiveLock whats.Vs ∷ []) g.goes z.added.goes;
+          back = none-append whats.Back found (acts.GiveLock whats.Vs ∷ []) (front_neither whats.Back g.its b g.head g.index n zero_it g.are) refl;
+        }
 
   -- .. or none
   pub spent_with : (d : Token) (d0 lost : ℕ) → HasSpentHint (drawing c) d b d0 lost → IsSpentWithVs c d b d0 lost vs

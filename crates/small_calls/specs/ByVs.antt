@@ -14,9 +14,9 @@ use Rattle.vs_layer.specs.Kept.{VsKept, place_for}
 use Rattle.vs_layer.specs.Standing.{layer_of}
 use Rattle.call_parts.specs.Calls.{GoesOn, Brings, MeetsBusy}
 use Rattle.paged_calls.specs.Parts.{ForCall, Places}
-use Rattle.small_calls.specs.Ways.{IsSpent, IsSpentUnderVs}
+use Rattle.small_calls.specs.Ways.{IsSpentUnderVs}
 use Rattle.small_calls.specs.declared.by_vs.SmallTry.{SmallTry}
-use Rattle.small_calls.specs.declared.by_vs.SmallTry.TheVariants.{Placed, Refused, Spent, SpentUnderVs}
+use Rattle.small_calls.specs.declared.by_vs.SmallTry.TheVariants.{Placed, Refused, SpentUnderVs}
 
 -- The lock of VS was taken, and by the state that it guarded no gap holds n bytes.
 pub record HasNoGap (old new : Token) (n : ℕ) : Type 0 where
@@ -32,10 +32,9 @@ abbrev pub IsRefusedByVs : ℕ → Token → Token → AllocNo → Type 0
 IsRefusedByVs n old new alloc_nos.NoFit = HasNoGap old new n × ForCall old (λ call. Brings old new call (Replied replies.NoFit))
 IsRefusedByVs n old new (alloc_nos.Busy b) = ForCall old (λ call. MeetsBusy old new call b whats.Vs) ⊎ (HasNoGap old new n × ForCall old (λ call. MeetsBusy old new call b whats.Back))
 
--- What an allocation comes to that took no lock of the back end for the front end's sake. Where its bucket was active, or became so, and the first pass of its
--- search is spent, the search is to go on under Back: without a lock, or with that of VS.
+-- What an allocation comes to whose bucket was not active. Where it became so, and the first pass of its search is spent, the search is to go on under Back, with
+-- the lock of VS.
 abbrev pub TriesSmall : Token → Token → ℕ → Bool → SmallTry → Type 0
 TriesSmall old new n zero (Placed addr) = Places old new addr
 TriesSmall old new n zero (Refused why) = IsRefusedByVs n old new why
-TriesSmall old new n zero (Spent b lost draw) = (bucket_of n ≡ Some b) × IsSpent old new n zero b draw.value lost
 TriesSmall old new n zero (SpentUnderVs vs b lost draw) = (bucket_of n ≡ Some b) × IsSpentUnderVs old new n zero b draw.value lost vs

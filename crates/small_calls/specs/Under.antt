@@ -21,7 +21,7 @@ use Rattle.lfh_claims.specs.Search.{own_slot}
 use Rattle.lfh_search.specs.declared.course.Course.{Course}
 use Rattle.lfh_search.specs.Under.{IsUnder, HasNotSaid, HasNoPages}
 use Rattle.small_calls.specs.Fronts.{IsResting, front_acts}
-use Rattle.small_calls.specs.Late.{tries_none}
+use Rattle.vs_calls.specs.Tries.{tries_none}
 use Rattle.small_calls.specs.Ways.{KeepsVs}
 use Rattle.small_calls.specs.declared.back_search.UnderBack.{UnderBack}
 use Rattle.small_calls.specs.declared.back_search.UnderBack.TheVariants.{Placed, NoRoom}

@@ -4,6 +4,7 @@ ghost use Rattle.heap_model.specs.Buckets.{bucket_of};
 ghost use Rattle.paged_calls.specs.Parts.{IsAllocating, Places};
 ghost use Rattle.small_calls.specs.Fronts.{IsAsking};
 ghost use Rattle.small_calls.specs.ByVs.{IsRefusedByVs, TriesSmall};
+ghost use Rattle.small_calls.specs.Late.{BacksLate, IsBackTry};
 
 use crate::under_vs::{UnderVs, try_under_vs};
 use call_parts::{State, take_vs};
@@ -22,13 +23,8 @@ pub enum SmallTry {
     },
     /// There is no block, or another caller has a lock. None is held.
     Refused(AllocNo),
-    /// The search of the bucket, which is active, goes on under the back end's lock, by this draw; so many claims were lost.
-    Spent {
-        bucket: u8,
-        lost: u32,
-        draw: Draw,
-    },
-    /// As Spent, and the lock of the variable-size layer is held.
+    /// The search of the bucket, which has become active, goes on under the back end's lock, by this draw; so many claims were lost. The
+    /// lock of the variable-size layer is held.
     SpentUnderVs {
         vs: Vs,
         bucket: u8,
@@ -39,6 +35,7 @@ pub enum SmallTry {
 
 /// Places a block of `n` bytes, at most 131,072 and too many for a bucket, in the variable-size layer, and gives it; where `zero` is
 /// asked its words are 0. The layer's lock is tried once, and that of the back end only where no gap holds the block.
+#[inline(never)]
 pub fn place_by_vs(
     heap: &Heap<State>,
     c: &mut Caller<State>,
@@ -51,6 +48,7 @@ pub fn place_by_vs(
     requires allocating { IsAllocating c.old n zero }
     ensures placed { IfOk result (λ addr. Places c.old c.new addr) }
     ensures refused { IfErr result (λ no. IsRefusedByVs n c.old c.new no) }
+    ensures backs { BacksLate c.old c.new n }
 {
     let vs = match take_vs(heap, c) {
         Ok(vs) => vs,
@@ -71,7 +69,8 @@ pub fn try_inactive(
     requires table { (c.old.table ≡ heap.now.table) × (c.old.opening ≡ heap.now.opening) }
     requires bucket { bucket_of n ≡ Some bucket }
     requires asking { IsAsking c.old n zero [] }
-    ensures { TriesSmall c.old c.new n zero result }
+    ensures tries { TriesSmall c.old c.new n zero result }
+    ensures backs { IsBackTry c.old c.new n result }
 {
     let vs = match try_under_vs(heap, c, bucket, n, zero) {
         UnderVs::Busy(busy) => return SmallTry::Refused(AllocNo::Busy(busy)),

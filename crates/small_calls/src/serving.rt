@@ -1,15 +1,15 @@
 //! Allocations of at most 131,072 bytes, but for what the variable-size layer's lock leaves to do with that of the back end.
-ghost use Rattle.std.specs.Prelude.{◌≡◌, ◌≤◌, Some};
+ghost use Rattle.std.specs.Prelude.{◌≡◌, List, Some};
+ghost use Rattle.heap_model.specs.declared.Act.{Act};
 ghost use Rattle.heap_model.specs.Buckets.{bucket_of};
 ghost use Rattle.heap_gate.specs.Token.{Token};
-ghost use Rattle.paged_calls.specs.Parts.{IsAllocating};
-ghost use Rattle.small_calls.specs.Ways.{IsSpent, IsSpentUnderVs};
+ghost use Rattle.call_parts.specs.Calls.{GoesOn};
+ghost use Rattle.small_calls.specs.Ways.{IsInactive, IsSpent, IsSpentUnderVs};
 ghost use Rattle.small_calls.specs.Served.{ServesSmall};
-ghost use Rattle.small_calls.specs.Late.{GoesLate, IsLateCall};
+ghost use Rattle.small_calls.specs.Late.{GoesLate, IsBackCall};
 
-use crate::by_vs::SmallTry;
+use crate::by_vs::{SmallTry, try_inactive};
 use crate::no_room::{BehindNoSpan, go_on};
-use crate::small::try_small;
 use crate::with_both::go_on_with_vs;
 use backend_fit::Back;
 use call_parts::State;
@@ -32,7 +32,8 @@ pub enum SmallCall {
 }
 
 /// Goes on with an allocation whose first pass of the front end is spent, by its draw; so many claims were lost.
-fn serve_spent(
+#[inline(never)]
+pub fn serve_spent(
     heap: &Heap<State>,
     c: &mut Caller<State>,
     bucket: u8,
@@ -68,7 +69,8 @@ fn serve_spent_with_vs(
     requires table { (c.old.table ≡ heap.now.table) × (c.old.opening ≡ heap.now.opening) }
     requires bucket { bucket_of n ≡ Some bucket }
     requires spent { (first : Token) × IsSpentUnderVs first c.old n zero bucket draw.value lost vs }
-    ensures { (first : Token) → IsSpentUnderVs first c.old n zero bucket draw.value lost vs → ServesSmall first c.new n zero result }
+    ensures serves { (first : Token) → IsSpentUnderVs first c.old n zero bucket draw.value lost vs → ServesSmall first c.new n zero result }
+    ensures goes { (rest : List Act) × GoesOn c.old c.new rest }
 {
     match go_on_with_vs(heap, c, vs, bucket, n, zero, lost, draw) {
         BehindNoSpan::Busy(busy) => SmallCall::Refused(AllocNo::Busy(busy)),
@@ -77,19 +79,25 @@ fn serve_spent_with_vs(
     }
 }
 
-/// Allocates `n` bytes, at most 131,072, zeroed if that is asked. The front end serves a size whose bucket is active, and the
-/// variable-size layer any other. No lock is waited for: each is tried once.
-pub fn serve_small(heap: &Heap<State>, c: &mut Caller<State>, n: u64, zero: bool) -> SmallCall
-    requires size { n ≤ 131072 }
+/// Allocates `n` bytes whose bucket was not active, zeroed if that is asked: as [`try_inactive`], and on from there. No lock is waited
+/// for: each is tried once.
+#[inline(never)]
+pub fn serve_inactive(
+    heap: &Heap<State>,
+    c: &mut Caller<State>,
+    bucket: u8,
+    n: u64,
+    zero: bool,
+) -> SmallCall
     requires table { (c.old.table ≡ heap.now.table) × (c.old.opening ≡ heap.now.opening) }
-    requires allocating { IsAllocating c.old n zero }
-    ensures serves { ServesSmall c.old c.new n zero result }
-    ensures late { IsLateCall c.old c.new n result }
+    requires bucket { bucket_of n ≡ Some bucket }
+    requires inactive { (first : Token) × IsInactive first c.old n zero }
+    ensures serves { (first : Token) → IsInactive first c.old n zero → ServesSmall first c.new n zero result }
+    ensures backs { (first : Token) → IsInactive first c.old n zero → IsBackCall first c.new n result }
 {
-    match try_small(heap, c, n, zero) {
+    match try_inactive(heap, c, bucket, n, zero) {
         SmallTry::Placed { addr } => SmallCall::Placed { addr },
         SmallTry::Refused(no) => SmallCall::Refused(no),
-        SmallTry::Spent { bucket, lost, draw } => serve_spent(heap, c, bucket, n, zero, lost, draw),
         SmallTry::SpentUnderVs {
             vs,
             bucket,

@@ -4,6 +4,7 @@ ghost use Rattle.heap_model.specs.Buckets.{bucket_of};
 ghost use Rattle.heap_gate.specs.Token.{Always, now};
 ghost use Rattle.small_calls.specs.Fronts.{IsAsking};
 ghost use Rattle.small_calls.specs.Ways.{AsksUnderVs, ServesWithVs, TriesUnderVs};
+ghost use Rattle.small_calls.specs.Late.{LeavesWithVs, LeavesUnderVs};
 
 use crate::front::{ByHint, serve_by_hint};
 use crate::ways::is_front;
@@ -48,7 +49,8 @@ fn serve_with_vs(
     requires bucket { bucket_of n ≡ Some bucket }
     requires asks { AsksUnderVs c.old n zero vs }
     requires active { Always c.old (λ s. (now s c.old).state.vs.active bucket ≡ true) }
-    ensures { ServesWithVs c.old c.new bucket result }
+    ensures serves { ServesWithVs c.old c.new bucket result }
+    ensures leaves { LeavesWithVs c.old c.new result }
 {
     c.check();
     match serve_by_hint(heap, c, bucket, n, zero) {
@@ -72,7 +74,8 @@ pub fn try_under_vs(
     requires table { (c.old.table ≡ heap.now.table) × (c.old.opening ≡ heap.now.opening) }
     requires bucket { bucket_of n ≡ Some bucket }
     requires asking { IsAsking c.old n zero [] }
-    ensures { TriesUnderVs c.old c.new bucket n zero result }
+    ensures tries { TriesUnderVs c.old c.new bucket n zero result }
+    ensures leaves { LeavesUnderVs c.old c.new result }
 {
     let mut vs = match take_vs(heap, c) {
         Ok(vs) => vs,

@@ -1,9 +1,11 @@
 //! An allocation whose first pass of the front end is spent with the lock of the variable-size layer held: it takes that of the back
 //! end too.
-ghost use Rattle.std.specs.Prelude.{◌≡◌, ℕ, Some, [], ◌∷◌};
+ghost use Rattle.std.specs.Prelude.{◌≡◌, ℕ, List, Some, [], ◌∷◌};
+ghost use Rattle.heap_model.specs.declared.Act.{Act};
 ghost use Rattle.heap_model.specs.Buckets.{bucket_of};
 ghost use Rattle.claim_rule.specs.Places.{vs_slot};
 ghost use Rattle.heap_gate.specs.Token.{Token};
+ghost use Rattle.call_parts.specs.Calls.{GoesOn};
 ghost use Rattle.lfh_search.specs.Courses.{IsCourse};
 ghost use Rattle.small_calls.specs.Ways.{KeepsVs, IsSpentUnderVs};
 ghost use Rattle.small_calls.specs.GoingOn.{IsWithoutRoom, TriesWithVs, SearchesAgain, GoneOnWithVs};
@@ -46,7 +48,8 @@ pub fn try_with_vs(
     requires course { IsCourse course.now }
     requires bucket { bucket_of n ≡ Some course.now.bucket }
     requires spent { (first : Token) × IsSpentUnderVs first c.old n zero course.now.bucket course.now.draw.value lost vs }
-    ensures { (first : Token) → IsSpentUnderVs first c.old n zero course.now.bucket course.now.draw.value lost vs → TriesWithVs first c.old c.new course.now lost n zero result }
+    ensures tries { (first : Token) → IsSpentUnderVs first c.old n zero course.now.bucket course.now.draw.value lost vs → TriesWithVs first c.old c.new course.now lost n zero result }
+    ensures goes { (rest : List Act) × GoesOn c.old c.new rest }
 {
     c.check();
     match go_under_back(heap, c, course, lost, n, zero) {
@@ -106,7 +109,8 @@ pub fn go_on_with_vs(
     requires table { (c.old.table ≡ heap.now.table) × (c.old.opening ≡ heap.now.opening) }
     requires bucket { bucket_of n ≡ Some bucket }
     requires spent { (first : Token) × IsSpentUnderVs first c.old n zero bucket draw.value lost vs }
-    ensures { (first : Token) → IsSpentUnderVs first c.old n zero bucket draw.value lost vs → GoneOnWithVs first c.new bucket draw.value lost n zero result }
+    ensures gone { (first : Token) → IsSpentUnderVs first c.old n zero bucket draw.value lost vs → GoneOnWithVs first c.new bucket draw.value lost n zero result }
+    ensures goes { (rest : List Act) × GoesOn c.old c.new rest }
 {
     let course = Course::new(bucket, draw);
     match try_with_vs(heap, c, vs, &course, lost, n, zero) {

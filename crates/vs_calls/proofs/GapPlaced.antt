@@ -94,5 +94,5 @@ module _ (c t : Token) (vs later : VsKept) (n addr : ℕ) (zero_it : Bool) (v : 
 
     pub gap_placed : (f : Token) → HasGiven d f whats.Vs (entry d.number (acts.GiveLock whats.Vs) ∷ []) → HasPlaced c f n addr zero_it
     gap_placed f g =
-        placed_shows c f (acted ∷ []) (acts.GiveLock whats.Vs ∷ []) x.run.first x.run.count addr n zero_it x.at refl refl refl refl
+        placed_shows c f (acted ∷ []) (acts.GiveLock whats.Vs ∷ []) x.run.first x.run.count addr n zero_it x.at refl refl refl refl refl refl
         (ended_then c d f ((acted ∷ []) ++ given) (acts.GiveLock whats.Vs ∷ []) [] all_added (ended_given d f whats.Vs [] (acts.GiveLock whats.Vs ∷ []) g all_out over_it.free))

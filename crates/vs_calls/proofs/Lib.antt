@@ -9,7 +9,9 @@ mod SpansUsed
 mod SpanKept
 pub mod InHand
 pub mod Gap
+pub mod Tries
 pub mod Shapes
+mod Backward
 mod GapPlaced
 pub mod TakenBack
 mod Area

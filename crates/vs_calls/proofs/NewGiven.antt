@@ -11,7 +11,7 @@ use Rattle.heap_model.specs.Shape.{shape_of, zeroing}
 use Rattle.heap_model.specs.State.{Setting, State, Place}
 use Rattle.claim_rule.specs.Entries.{entry}
 use Rattle.claim_rule.specs.Places.{vs_slot, back_slot}
-use Rattle.backend_fit.specs.Kept.{Kept}
+use Rattle.backend_fit.specs.Kept.{Kept, area_of}
 use Rattle.backend_fit.specs.Sound.{IsSound}
 use Rattle.vs_layer.specs.Kept.{VsKept}
 use Rattle.vs_layer.specs.Standing.{layer_of}
@@ -22,7 +22,8 @@ use Rattle.call_parts.proofs.Serving.{none_begins-append, shape-append}
 use Rattle.call_parts.proofs.Tokens.{added_then, ended_given, ended_then}
 use Rattle.vs_calls.specs.Parts.{IsPlacingAnew, HasHeldAnew, HasPlaced, span_acts}
 use Rattle.vs_calls.proofs.SpanMay.{HoldsForSpan, anew_holds}
-use Rattle.vs_calls.proofs.NewPlaced.{spanned, new_here, here_added, here_out, here_limits, behind, step_added, step_out, step_prepared, new_behind, span_no_begin, span_shown}
+use Rattle.vs_calls.proofs.NewPlaced.{spanned, new_here, here_added, here_out, here_limits, behind, step_added, step_out, step_prepared, new_behind, span_no_begin, span_no_try, span_shown}
+use Rattle.vs_calls.proofs.Tries.{none-append}
 use Rattle.vs_calls.proofs.InHand.{HasNewBlock}
 use Rattle.vs_calls.proofs.InHand as hand
 use Rattle.vs_calls.proofs.Shapes.{placed_shows}
@@ -33,7 +34,7 @@ module _ (c t b : Token) (vs later : VsKept) (back more : Kept) (n addr : ℕ) (
   hold = anew_holds c vs back n zero_it v st sound size
 
   abbrev list : List Act
-  list = span_acts back.region.reserved x.first n x.run
+  list = span_acts (area_of back).reserved x.first n x.run
 
   abbrev before : Setting → State
   before s = spanned c t vs later back more n addr hold x s
@@ -91,6 +92,7 @@ module _ (c t b : Token) (vs later : VsKept) (back more : Kept) (n addr : ℕ) (
     anew_placed f k =
         let gl : List Act = acts.GiveLock whats.Back ∷ [] in
         placed_shows c f (list ++ gl) (acts.GiveLock whats.Vs ∷ []) x.run.first x.run.count addr n zero_it x.at
-        (none_begins-append list gl (span_no_begin back.region.reserved x.first n x.run) refl)
-        (shape-append list gl ∙ (append-nil (shape_of list) ∙ span_shown back.region.reserved x.first n x.run)) refl refl
+        (none_begins-append list gl (span_no_begin (area_of back).reserved x.first n x.run) refl)
+        (none-append whats.Back list gl (span_no_try (area_of back).reserved x.first n x.run) refl)
+        (shape-append list gl ∙ (append-nil (shape_of list) ∙ span_shown (area_of back).reserved x.first n x.run)) refl refl refl
         (ended_then c d f ((list ++ gl) ++ given) (acts.GiveLock whats.Vs ∷ []) [] all_added (ended_given d f whats.Vs [] (acts.GiveLock whats.Vs ∷ []) k all_out over_it.free))

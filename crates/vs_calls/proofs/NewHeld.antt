@@ -75,7 +75,7 @@ both_become vs more later n run x a b o st k t v e =
     b o mid k (a o st mid t refl e) v refl
 
 pub held_anew : (c d : Token) (vs more later : VsKept) (back then : Kept) (n addr first pages reserved : ℕ) → (none : place_for vs n ≡ None) → (e : pages ≡ span_pages_of n) → (fits : Some first ≡ back_place (area_of back) back.limits.segments pages)
-    → (spans : more.spans ≡ insert_span (vs_span first pages) vs.spans) → (places : places_of more ≡ places_of vs) → (x : HasPlaced more later n addr) → reserved ≡ back.region.reserved → block_at later addr ≡ Some (block_in x.run n)
+    → (spans : more.spans ≡ insert_span (vs_span first pages) vs.spans) → (places : places_of more ≡ places_of vs) → (x : HasPlaced more later n addr) → reserved ≡ (area_of back).reserved → block_at later addr ≡ Some (block_in x.run n)
     → d ≡ with_all c (span_acts reserved first n x.run) → Becomes vs more (λ v. v) (insert_span (vs_span first pages)) → Becomes more later (λ v. with_block v x.run n) (λ xs. xs)
     → backs.Becomes back then (λ b. part_with b (marked_run first pages vs_mark)) → HasHeldAnew c d vs later back then n addr
 held_anew c d vs more later back then n addr first pages reserved none e fits spans places x r there p a b f = record {

@@ -63,19 +63,19 @@ module _ (old new : Kept) (first pages : ℕ) (sound : IsSound new) (runs : take
   there : IsOneOf (vs_run first pages) (runs_of new.words)
   there = (filtered_cases (λ q. is_of_span q.mark.kind) (vs_run first pages) (runs_of new.words) (subst (IsOneOf (vs_run first pages)) (sym runs) (made_run (vs_run first pages) (taken_in old.words)))).0
 
-  used : (k : ℕ) → k < pages → is_usable_in new.region.reserved (first + k) ≡ true
-  used k l = all_at (IsUsed new.region.reserved) (vs_run first pages) (runs_of new.words) sound.used there k l
+  used : (k : ℕ) → k < pages → is_usable_in (area_of new).reserved (first + k) ≡ true
+  used k l = all_at (IsUsed (area_of new).reserved) (vs_run first pages) (runs_of new.words) sound.used there k l
 
   pub span_pages : (v : Chunks) → length v.heads ≡ 65536 * old.limits.segments → new.limits.segments ≡ old.limits.segments → 16 ≤ pages → pages ≤ 33 → AreSpanPages v first pages
   span_pages v g s least most =
-      let front = leb-true 2 ((first + 0) % 256) (and_parts (ltb ((first + 0) / 256) new.region.reserved) _ (used 0 (omega arith))).1 in
+      let front = leb-true 2 ((first + 0) % 256) (and_parts (ltb ((first + 0) / 256) (area_of new).reserved) _ (used 0 (omega arith))).1 in
       let end = ends_inside new.words 0 (length new.words) (runs_of new.words) (vs_run first pages) sound.whole there in
       let all = sound.pages in
       record {
         least = least;
         most = most;
         usable = omega arith;
-        one_segment = one_segment_of new.region.reserved first pages (omega arith) used;
+        one_segment = one_segment_of (area_of new).reserved first pages (omega arith) used;
         there = omega (arith, end, all, g, s);
       }
 

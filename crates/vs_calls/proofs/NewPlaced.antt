@@ -26,7 +26,7 @@ use Rattle.serial_laws.specs.VsCalls.{vs_span_for}
 use Rattle.serial_laws.proofs.NewSpan.{lies_in_new_span}
 use Rattle.serial_laws.proofs.VsAllocate.{count_is}
 use Rattle.backend_fit.specs.Effects.{with_segment, marked_run, part_with}
-use Rattle.backend_fit.specs.Kept.{Kept}
+use Rattle.backend_fit.specs.Kept.{Kept, area_of}
 use Rattle.backend_fit.specs.Kept as backs
 use Rattle.backend_fit.proofs.Told.{spans_used}
 use Rattle.vs_layer.specs.Kept.{VsKept, vs_span, block_in}
@@ -38,6 +38,7 @@ use Rattle.call_parts.specs.Entries.{with_all, HasAdded}
 use Rattle.call_parts.proofs.Joining.{setting_before, goes_does}
 use Rattle.call_parts.proofs.Serving.{none_begins}
 use Rattle.call_parts.proofs.Tokens.{now_all, added_all, length_all, setting_before_all}
+use Rattle.vs_calls.specs.Tries.{tries_none}
 use Rattle.vs_calls.specs.Parts.{HasHeldAnew, span_acts}
 use Rattle.vs_calls.proofs.SpanMay.{HoldsForSpan, spans_with, order_now, none_now, fits_now}
 use Rattle.vs_calls.proofs.InHand.{with_hand, used_more, HasNewBlock}
@@ -56,6 +57,9 @@ all_inserted t x (y ∷ ys) h k =
 pub span_no_begin : (reserved first n : ℕ) (r : Run) → none_begins (span_acts reserved first n r) ≡ true
 span_no_begin reserved first n r = elim (cases_Bool (ltb (first / 256) reserved)) [ inl e ↦ rw e refl | inr e ↦ rw e refl ]
 
+pub span_no_try : (reserved first n : ℕ) (r : Run) → tries_none whats.Back (span_acts reserved first n r) ≡ true
+span_no_try reserved first n r = elim (cases_Bool (ltb (first / 256) reserved)) [ inl e ↦ rw e refl | inr e ↦ rw e refl ]
+
 pub span_shown : (reserved first n : ℕ) (r : Run) → shape_of (span_acts reserved first n r) ≡ acts.Place (16 * r.first) r.count layers.Vs ∷ []
 span_shown reserved first n r = elim (cases_Bool (ltb (first / 256) reserved)) [ inl e ↦ rw e refl | inr e ↦ rw e refl ]
 
@@ -73,7 +77,7 @@ out_all c (act ∷ rest) = out_all (with_prepared c act) rest
 
 module _ (c t : Token) (vs later : VsKept) (back more : Kept) (n addr : ℕ) (v : HoldsForSpan c vs back n) (x : HasHeldAnew c t vs later back more n addr) where
   abbrev list : List Act
-  list = span_acts back.region.reserved x.first n x.run
+  list = span_acts (area_of back).reserved x.first n x.run
 
   abbrev t0 : Token
   t0 = with_all c list
@@ -83,7 +87,7 @@ module _ (c t : Token) (vs later : VsKept) (back more : Kept) (n addr : ℕ) (v 
   spanned s = let m = (now s c).state in record m { back = record { area = with_span (with_segment m.back.area x.first) (vs_span_for x.first n); places = m.back.places } }
 
   pub new_added : HasAdded c t0 list
-  new_added = added_all c list (span_no_begin back.region.reserved x.first n x.run)
+  new_added = added_all c list (span_no_begin (area_of back).reserved x.first n x.run)
 
   number : t0.number ≡ c.number
   number = new_added.goes.number
@@ -113,7 +117,7 @@ module _ (c t : Token) (vs later : VsKept) (back more : Kept) (n addr : ℕ) (v 
     size = v.size;
     count = count_is (gaps_of (insert_span (vs_span x.first (span_pages_of n)) vs.spans) (vss.places_of vs)) (units_of n) x.run x.range.fits;
     inside = new_added.steady.inside ∙ v.inside;
-    whole = span_whole c back.region.reserved x.first n x.run;
+    whole = span_whole c (area_of back).reserved x.first n x.run;
     begun = ap is_some new_added.steady.call ∙ v.begun;
     state = λ s q. subst (λ (k : ℕ). (now s t0).state ≡ with_hand (spanned s) k n x.run) (sym number) (state_now s (before0 s q));
     none = λ s q. subst (λ (k : ℕ). hands (spanned s) k ≡ []) (sym number) ((v.stands s (before0 s q)).hands v.free);
@@ -138,7 +142,7 @@ module _ (c t : Token) (vs later : VsKept) (back more : Kept) (n addr : ℕ) (v 
   here_few =
       let e = ap (λ (k : Token). length k.prepared) x.prepared in
       let all = length_all c list in
-      let few = span_few back.region.reserved x.first n x.run in
+      let few = span_few (area_of back).reserved x.first n x.run in
       omega (arith, e, all, few)
 
   pub here_before : (s : Setting) → IsSettingOf t.opening t.roll s → IsSettingOf c.opening c.roll s

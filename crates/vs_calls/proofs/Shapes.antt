@@ -26,6 +26,8 @@ use Rattle.call_parts.proofs.Joining.{goes_does, goes_then}
 use Rattle.call_parts.proofs.Serving.{none_begins, none_begins-append, shape-append, new_since}
 use Rattle.call_parts.proofs.Tokens.{added_taken, added_runs, ended_given, ended_then, makes}
 use Rattle.vs_layer.specs.Kept.{VsKept}
+use Rattle.vs_calls.specs.Tries.{tries_none}
+use Rattle.vs_calls.proofs.Tries.{none-append, none_zeroed}
 use Rattle.vs_calls.specs.Parts.{HasPlaced, HasDroppedBy, HasFreed, Places, Refuses}
 
 pub zeros_shown : (zero_it : Bool) (word count : ℕ) → shape_of (zeros zero_it word count) ≡ zeros zero_it word count
@@ -40,9 +42,9 @@ zeros_no_begin true word (suc count) = zeros_no_begin true (word + 1) count
 
 ---- A block that was placed, under locks that are given back
 
-pub placed_shows : (a b : Token) (xs gs : List Act) (first granules addr n : ℕ) (zero_it : Bool) → addr ≡ 16 * first + 16 → none_begins xs ≡ true → shape_of xs ≡ acts.Place (16 * first) granules layers.Vs ∷ []
-    → none_begins gs ≡ true → shape_of gs ≡ [] → HasEnded a b ((xs ++ (zeroing zero_it addr n ++ acts.Give addr n ∷ [])) ++ gs) [] → HasPlaced a b n addr zero_it
-placed_shows a b xs gs first granules addr n zero_it at nb sh nbg shg x =
+pub placed_shows : (a b : Token) (xs gs : List Act) (first granules addr n : ℕ) (zero_it : Bool) → addr ≡ 16 * first + 16 → none_begins xs ≡ true → tries_none whats.Back xs ≡ true → shape_of xs ≡ acts.Place (16 * first) granules layers.Vs ∷ []
+    → none_begins gs ≡ true → tries_none whats.Back gs ≡ true → shape_of gs ≡ [] → HasEnded a b ((xs ++ (zeroing zero_it addr n ++ acts.Give addr n ∷ [])) ++ gs) [] → HasPlaced a b n addr zero_it
+placed_shows a b xs gs first granules addr n zero_it at nb nt sh nbg ntg shg x =
     let zs = zeroing zero_it addr n in
     let give : List Act = acts.Give addr n ∷ [] in
     let given : shape_of (zs ++ give) ≡ zs ++ give = shape-append zs give ∙ ap (λ (l : List Act). l ++ give) (zeros_shown zero_it (addr / 8) (words_of n)) in
@@ -54,6 +56,7 @@ placed_shows a b xs gs first granules addr n zero_it at nb sh nbg shg x =
       at = at;
       ended = x;
       no_begin = none_begins-append (xs ++ (zs ++ give)) gs (none_begins-append xs (zs ++ give) nb (none_begins-append zs give (zeros_no_begin zero_it (addr / 8) (words_of n)) refl)) nbg;
+      no_back = none-append whats.Back (xs ++ (zs ++ give)) gs (none-append whats.Back xs (zs ++ give) nt (none_zeroed whats.Back addr n zero_it give refl)) ntg;
       shape_is = shape-append (xs ++ (zs ++ give)) gs ∙ ((λ i. shape_of (xs ++ (zs ++ give)) ++ shg i) ∙ (append-nil (shape_of (xs ++ (zs ++ give))) ∙ all));
     }
 

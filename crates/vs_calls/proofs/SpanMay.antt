@@ -157,7 +157,7 @@ module _ (c : Token) (vs : VsKept) (back : Kept) (n first : ℕ) (r : Run) (tell
   area_now : Always c (λ s. area_of back ≡ (now s c).state.back.area)
   area_now s q = area_is c.opening (now s c).state back (tells_back s q) sound
 
-  pub reserved_now : Always c (λ s. (now s c).state.back.area.reserved ≡ back.region.reserved)
+  pub reserved_now : Always c (λ s. (now s c).state.back.area.reserved ≡ (area_of back).reserved)
   reserved_now s q = sym (ap (λ (a : Area). a.reserved) (area_now s q))
 
   pub pages_now : Always c (λ s. back_place (now s c).state.back.area s.limits.segments (span_pages_of n) ≡ Some first)
@@ -178,16 +178,16 @@ pub record HoldsForSpan (c : Token) (vs : VsKept) (back : Kept) (n : ℕ) : Type
   pub used : Always c (λ s. leaves_whole (now s c).state whats.Vs ≡ true)
   pub tells_vs : Always c (λ s. StandsForVs c.opening (now s c).state (vss.layer_of vs))
   pub tells_back : Always c (λ s. StandsForBack c.opening (now s c).state (backs.layer_of back))
-  pub leads : (first : ℕ) (r : Run) → HasRange vs back n first r → Always c (λ s. SpanLeads s (now s c) c.number (span_acts back.region.reserved first n r) first n r)
+  pub leads : (first : ℕ) (r : Run) → HasRange vs back n first r → Always c (λ s. SpanLeads s (now s c) c.number (span_acts (area_of back).reserved first n r) first n r)
 
 pub span_may : (c : Token) (vs : VsKept) (back : Kept) (n : ℕ) → HoldsForSpan c vs back n → (first : ℕ) (r : Run) → HasRange vs back n first r
-    → Always c (λ s. are_prepared s (now s c) c.number (by_all c.number (span_acts back.region.reserved first n r)) ≡ true)
+    → Always c (λ s. are_prepared s (now s c) c.number (by_all c.number (span_acts (area_of back).reserved first n r)) ≡ true)
 span_may c vs back n h first r g s q = (h.leads first r g s q).may
 
 ---- Of a size that the layer itself serves
 
 module _ (c : Token) (vs : VsKept) (back : Kept) (n : ℕ) (zero_it : Bool) (v : IsPlacingAnew c vs back n zero_it) (st : IsStanding c) (sound : IsSound back) (size : n ≤ 131072) where
-  anew_leads : (first : ℕ) (r : Run) → HasRange vs back n first r → Always c (λ s. SpanLeads s (now s c) c.number (span_acts back.region.reserved first n r) first n r)
+  anew_leads : (first : ℕ) (r : Run) → HasRange vs back n first r → Always c (λ s. SpanLeads s (now s c) c.number (span_acts (area_of back).reserved first n r) first n r)
   anew_leads first r g s q =
       let m = now s c in
       let h = v.holds in

@@ -1,2 +1,3 @@
 pub mod Blocks
+pub mod Tries
 pub mod Parts

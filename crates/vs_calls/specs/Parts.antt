@@ -36,6 +36,7 @@ use Rattle.vs_layer.specs.Standing.{layer_of, Becomes, with_block}
 use Rattle.call_parts.specs.Calls.{HoldsVs, HoldsBoth, Makes, Brings, MeetsBusy}
 use Rattle.call_parts.specs.Entries.{with_all, HasEnded}
 use Rattle.vs_calls.specs.Blocks.{IsForVs, size_at}
+use Rattle.vs_calls.specs.Tries.{tries_none}
 
 ---- The call
 
@@ -92,7 +93,7 @@ pub record KeepsBlock (old new : Token) (vs : VsKept) (addr : ℕ) (b : Busy) : 
   pub last : TellsLast vs addr true
   pub busy : ForCall old (λ call. MeetsBusy old new call b whats.Back)
 
--- A new block of n bytes is placed and given, and the caller holds no lock then.
+-- A new block of n bytes is placed and given, and the caller holds no lock then. The lock of the back end is not tried.
 pub record HasPlaced (old new : Token) (n addr : ℕ) (zero : Bool) : Type 0 where
   pub first : ℕ
   pub granules : ℕ
@@ -100,6 +101,7 @@ pub record HasPlaced (old new : Token) (n addr : ℕ) (zero : Bool) : Type 0 whe
   pub at : addr ≡ 16 * first + 16
   pub ended : HasEnded old new rest []
   pub no_begin : list_all (λ act. not (is_begin act)) rest ≡ true
+  pub no_back : tries_none whats.Back rest ≡ true
   pub shape_is : shape_of rest ≡ acts.Place (16 * first) granules layers.Vs ∷ (zeroing zero addr n ++ acts.Give addr n ∷ [])
 
 ---- A span that goes
@@ -149,7 +151,7 @@ pub record HasHeldAnew (old new : Token) (vs later : VsKept) (back more : Kept) 
   pub range : HasRange vs back n first run
   pub at : addr ≡ 16 * run.first + 16
   pub there : block_at later addr ≡ Some (block_in run n)
-  pub prepared : new ≡ with_all old (span_acts back.region.reserved first n run)
+  pub prepared : new ≡ with_all old (span_acts (area_of back).reserved first n run)
   pub becomes : Becomes vs later (λ v. with_block v run n) (insert_span (vs_span first (span_pages_of n)))
   pub becomes_back : backs.Becomes back more (λ b. part_with b (marked_run first (span_pages_of n) vs_mark))
 

@@ -1,6 +1,7 @@
 //! An allocation that the variable-size layer serves.
 ghost use Rattle.std.specs.Prelude.{◌≡◌, ◌≤◌, true, is_some, IfOk, IfErr, IfSome, IfNone};
 ghost use Rattle.vs_layer.specs.Kept.{place_for};
+ghost use Rattle.vs_calls.specs.Tries.{LeavesBack, TriesBackFirst};
 ghost use Rattle.vs_calls.specs.Parts.{IsPlacing, IsPlacingAnew, HasPlaced, Places, Refuses, IsRefused};
 
 use crate::blocks::lies_within;
@@ -43,6 +44,7 @@ fn place_in_span(
     requires placing { IsPlacingAnew c.old vs back n zero }
     ensures placed { IfSome result (λ addr. HasPlaced c.old c.new n addr zero) }
     ensures refused { IfNone result (Refuses c.old c.new) }
+    ensures leaves { LeavesBack c.old c.new }
 {
     c.check();
     let _region = back.region();
@@ -73,6 +75,7 @@ pub fn place_in_vs(
     requires placing { IsPlacing c.old vs n zero }
     ensures placed { IfOk result (λ addr. Places c.old c.new addr) }
     ensures refused { IfErr result (λ no. IsRefused vs n c.old c.new no) }
+    ensures late { TriesBackFirst c.old c.new vs n }
 {
     c.check();
     if vs.fit(n) {

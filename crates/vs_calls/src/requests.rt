@@ -14,6 +14,7 @@ ghost use Rattle.heap_gate.specs.Token.{Always, now};
 ghost use Rattle.vs_layer.specs.Kept.{place_for};
 ghost use Rattle.call_parts.specs.Calls.{HoldsVs, HoldsBoth, Brings};
 ghost use Rattle.vs_calls.specs.Blocks.{IsForVs, HasHeld};
+ghost use Rattle.vs_calls.specs.Tries.{LeavesBack};
 
 use crate::placing::{hold_in_gap, refuse};
 use backend_fit::Back;
@@ -44,7 +45,8 @@ pub fn refuse_new(heap: &Heap<State>, c: &mut Caller<State>, vs: Vs, back: Back,
     requires vs { IsForVs c.old n }
     requires no_gap { place_for vs n ≡ None }
     requires no_pages { back_place (area_of back) back.limits.segments (span_pages_of n) ≡ None }
-    ensures { (call : ACall) → c.old.call ≡ Some call → Brings c.old c.new call (Replied replies.NoFit) }
+    ensures refused { (call : ACall) → c.old.call ≡ Some call → Brings c.old c.new call (Replied replies.NoFit) }
+    ensures leaves { LeavesBack c.old c.new }
 {
     c.check();
     refuse(heap, c, vs, back, n);

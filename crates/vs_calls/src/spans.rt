@@ -88,7 +88,7 @@ pub fn hold_in_new_span(c: &mut Caller<State>, vs: &mut Vs, back: &mut Back, n: 
     requires room { length c.old.prepared + 3 ≤ 16 }
     requires tells_vs { Always c.old (λ s. StandsForVs c.old.opening (now s c.old).state (layer_of vs.old)) }
     requires tells_back { Always c.old (λ s. StandsForBack c.old.opening (now s c.old).state (backs.layer_of back.old)) }
-    requires may { (first : ℕ) (run : Run) → HasRange vs.old back.old n first run → Always c.old (λ s. are_prepared s (now s c.old) c.old.number (by_all c.old.number (span_acts back.old.region.reserved first n run)) ≡ true) }
+    requires may { (first : ℕ) (run : Run) → HasRange vs.old back.old n first run → Always c.old (λ s. are_prepared s (now s c.old) c.old.number (by_all c.old.number (span_acts (backs.area_of back.old).reserved first n run)) ≡ true) }
     ensures held { IfSome result (λ addr. HasHeldAnew c.old c.new vs.old vs.new back.old back.new n addr) }
     ensures none { IfNone result (HasNoRange c.old c.new vs.old vs.new back.old back.new n) }
 {

@@ -5,17 +5,18 @@ use Rattle.heap_model.specs.declared.Act.TheVariants as acts
 use Rattle.heap_model.specs.declared.What.TheVariants as whats
 use Rattle.small_calls.specs.Ways.{AsksUnderVs}
 use Rattle.call_parts.proofs.Joining.{goes_then}
+use Rattle.small_calls.proofs.Backs.{missed_leaves, leaves_then, under_none}
 use Rattle.small_calls.proofs.VsHeld.{taken_asks, taken_goes, missed_busy, places_behind, activation_shown}
 use Rattle.small_calls.proofs.under_vs.try_under_vs.Goals as goal
 
-pub returns-in-Err : goal.returns-in-Err
-returns-in-Err c = missed_busy c.args.c.now c.take_vs.new.c c.in-Err.busy c.args.n c.args.zero c.requires.asking c.in-Err.ensures.busy
+pub returns-in-Err-clause-tries : goal.returns-in-Err-clause-tries
+returns-in-Err-clause-tries c = missed_busy c.args.c.now c.take_vs.new.c c.in-Err.busy c.args.n c.args.zero c.requires.asking c.in-Err.ensures.busy
 
 pub is_front-requires-clause-asks : goal.is_front-requires-clause-asks
 is_front-requires-clause-asks c = (c.args.n, c.args.zero, taken_asks c.args.c.now c.take_vs.new.c c.args.n c.args.zero c.in-Ok.vs c.requires.asking c.in-Ok.ensures.ok, c.requires.bucket)
 
-pub returns-then-not-is_front : goal.returns-then-not-is_front
-returns-then-not-is_front c =
+pub returns-then-not-is_front-clause-tries : goal.returns-then-not-is_front-clause-tries
+returns-then-not-is_front-clause-tries c =
     let a = c.args.c.now in let m = c.take_vs.new.c in
     let asks = taken_asks a m c.args.n c.args.zero c.in-Ok.vs c.requires.asking c.in-Ok.ensures.ok in
     let no = c.if-not-is_front.ensures c.args.n c.args.zero asks c.requires.bucket in
@@ -43,18 +44,18 @@ serve_with_vs-requires-clause-table c =
     let first = taken_goes c.args.c.now c.take_vs.new.c c.in-Ok.vs c.in-Ok.ensures.ok in
     (front.goes.table ∙ (first.table ∙ c.requires.table.0), front.goes.opening ∙ (first.opening ∙ c.requires.table.1))
 
-pub returns-in-Placed : goal.returns-in-Placed
-returns-in-Placed c =
+pub returns-in-Placed-clause-tries : goal.returns-in-Placed-clause-tries
+returns-in-Placed-clause-tries c =
     let a = c.args.c.now in let m = c.take_vs.new.c in
     let asks = taken_asks a m c.args.n c.args.zero c.in-Ok.vs c.requires.asking c.in-Ok.ensures.ok in
     let front = c.if-not-is_front.ensures c.args.n c.args.zero asks c.requires.bucket in
     let first = taken_goes a m c.in-Ok.vs c.in-Ok.ensures.ok in
     let shown = activation_shown c.args.bucket front.its front.its_are in
     places_behind a c.is_front.new.c c.serve_with_vs.new.c c.in-Placed.addr (acts.TakeLock whats.Vs ∷ front.its) (goes_then a m c.is_front.new.c (acts.TakeLock whats.Vs ∷ []) front.its first front.goes) shown.0 shown.1
-    (front.call ∙ c.in-Ok.ensures.ok.stands.call) c.in-Placed.ensures
+    (front.call ∙ c.in-Ok.ensures.ok.stands.call) c.in-Placed.ensures.serves
 
-pub returns-in-Spent : goal.returns-in-Spent
-returns-in-Spent c =
+pub returns-in-Spent-clause-tries : goal.returns-in-Spent-clause-tries
+returns-in-Spent-clause-tries c =
     let a = c.args.c.now in let m = c.take_vs.new.c in
     let asks = taken_asks a m c.args.n c.args.zero c.in-Ok.vs c.requires.asking c.in-Ok.ensures.ok in
     let front = c.if-not-is_front.ensures c.args.n c.args.zero asks c.requires.bucket in
@@ -66,5 +67,17 @@ returns-in-Spent c =
       goes = goes_then a m c.is_front.new.c (acts.TakeLock whats.Vs ∷ []) front.its first front.goes;
       call = front.call ∙ c.in-Ok.ensures.ok.stands.call;
       asking = front.asks.asking;
-      spent = c.in-Spent.ensures;
+      spent = c.in-Spent.ensures.serves;
     }
+
+pub returns-in-Err-clause-leaves : goal.returns-in-Err-clause-leaves
+returns-in-Err-clause-leaves c = missed_leaves c.args.c.now c.take_vs.new.c c.in-Err.busy c.in-Err.ensures.busy
+
+pub returns-in-Placed-clause-leaves : goal.returns-in-Placed-clause-leaves
+returns-in-Placed-clause-leaves c =
+    let a = c.args.c.now in let m = c.take_vs.new.c in
+    let asks = taken_asks a m c.args.n c.args.zero c.in-Ok.vs c.requires.asking c.in-Ok.ensures.ok in
+    let front = c.if-not-is_front.ensures c.args.n c.args.zero asks c.requires.bucket in
+    let first = taken_goes a m c.in-Ok.vs c.in-Ok.ensures.ok in
+    leaves_then a c.is_front.new.c c.serve_with_vs.new.c (acts.TakeLock whats.Vs ∷ front.its) (goes_then a m c.is_front.new.c (acts.TakeLock whats.Vs ∷ []) front.its first front.goes) (under_none c.args.bucket front.its front.its_are)
+    c.in-Placed.ensures.leaves

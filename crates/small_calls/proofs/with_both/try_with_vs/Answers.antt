@@ -1,6 +1,9 @@
 use Rattle.std.proofs.Common.{[], ◌∷◌, ◌∙◌, refl}
+use Rattle.heap_model.specs.declared.Call.TheVariants as calls
 use Rattle.claim_rule.specs.Places.{vs_slot}
-use Rattle.small_calls.proofs.BehindVs.{has_spent, back_free, vs_held, out_m, gate_m, keeps_m, busy_with, gate_p, keeps_p, placed_p}
+use Rattle.small_calls.specs.declared.spent.BehindSpent.TheVariants as behind
+use Rattle.small_calls.proofs.BehindVs.{has_spent, back_free, vs_held, out_m, gate_m, keeps_m, busy_with, gate_p, keeps_p, placed_p, goes_busy, goes_placed}
+use Rattle.small_calls.proofs.Late.{late_under}
 use Rattle.small_calls.proofs.with_both.try_with_vs.Goals as goal
 
 pub go_under_back-requires-clause-spent : goal.go_under_back-requires-clause-spent
@@ -31,8 +34,8 @@ pub give_vs-requires-clause-tells : goal.give_vs-requires-clause-tells
 give_vs-requires-clause-tells c s q =
     let x = c.requires.spent in let k = keeps_m x.0 c.args.c.now c.args.vs c.args.n c.args.course.now.bucket c.args.course.now.draw.value c.args.lost c.args.zero x.1 c.check.ensures.stands c.go_under_back.new.c c.in-Busy.busy (c.in-Busy.ensures (vs_slot ∷ []) (has_spent x.0 c.args.c.now c.args.vs c.args.n c.args.course.now.bucket c.args.course.now.draw.value c.args.lost c.args.zero x.1)) in (k.used s q, k.tells s q)
 
-pub returns-in-Busy : goal.returns-in-Busy
-returns-in-Busy c first x =
+pub returns-in-Busy-clause-tries : goal.returns-in-Busy-clause-tries
+returns-in-Busy-clause-tries c first x =
     busy_with first c.args.c.now c.args.vs c.args.n c.args.course.now.bucket c.args.course.now.draw.value c.args.lost c.args.zero x c.check.ensures.stands c.go_under_back.new.c c.in-Busy.busy (c.in-Busy.ensures (vs_slot ∷ []) (has_spent first c.args.c.now c.args.vs c.args.n c.args.course.now.bucket c.args.course.now.draw.value c.args.lost c.args.zero x)) c.give_vs.new.c c.give_vs.ensures
 
 pub give_vs-requires-in-Placed-clause-table : goal.give_vs-requires-in-Placed-clause-table
@@ -55,10 +58,27 @@ pub give_vs-requires-in-Placed-clause-tells : goal.give_vs-requires-in-Placed-cl
 give_vs-requires-in-Placed-clause-tells c s q =
     let x = c.requires.spent in let k = keeps_p x.0 c.args.c.now c.args.vs c.args.n c.args.course.now.bucket c.args.course.now.draw.value c.args.lost c.args.zero x.1 c.go_under_back.new.c c.in-Placed.addr (c.in-Placed.ensures (vs_slot ∷ []) (has_spent x.0 c.args.c.now c.args.vs c.args.n c.args.course.now.bucket c.args.course.now.draw.value c.args.lost c.args.zero x.1)) in (k.used s q, k.tells s q)
 
-pub returns-in-Placed : goal.returns-in-Placed
-returns-in-Placed c first x =
+pub returns-in-Placed-clause-tries : goal.returns-in-Placed-clause-tries
+returns-in-Placed-clause-tries c first x =
     placed_p first c.args.c.now c.args.vs c.args.n c.args.course.now.bucket c.args.course.now.draw.value c.args.lost c.args.zero x c.go_under_back.new.c c.in-Placed.addr (c.in-Placed.ensures (vs_slot ∷ []) (has_spent first c.args.c.now c.args.vs c.args.n c.args.course.now.bucket c.args.course.now.draw.value c.args.lost c.args.zero x)) c.give_vs-in-Placed.new.c c.give_vs-in-Placed.ensures
 
-pub returns-in-NoRoom : goal.returns-in-NoRoom
-returns-in-NoRoom c first x =
+pub returns-in-NoRoom-clause-tries : goal.returns-in-NoRoom-clause-tries
+returns-in-NoRoom-clause-tries c first x =
     let w = c.in-NoRoom.ensures (vs_slot ∷ []) (has_spent first c.args.c.now c.args.vs c.args.n c.args.course.now.bucket c.args.course.now.draw.value c.args.lost c.args.zero x) in record { none = w; keeps = w.keeps c.args.vs (vs_held first c.args.c.now c.args.vs c.args.n c.args.course.now.bucket c.args.course.now.draw.value c.args.lost c.args.zero x) x.spent.keeps }
+
+pub returns-in-Busy-clause-goes : goal.returns-in-Busy-clause-goes
+returns-in-Busy-clause-goes c =
+    let x = c.requires.spent in
+    goes_busy x.0 c.args.c.now c.args.vs c.args.n c.args.course.now.bucket c.args.course.now.draw.value c.args.lost c.args.zero x.1 c.check.ensures.stands c.go_under_back.new.c c.in-Busy.busy (c.in-Busy.ensures (vs_slot ∷ []) (has_spent x.0 c.args.c.now c.args.vs c.args.n c.args.course.now.bucket c.args.course.now.draw.value c.args.lost c.args.zero x.1)) c.give_vs.new.c c.give_vs.ensures
+
+pub returns-in-Placed-clause-goes : goal.returns-in-Placed-clause-goes
+returns-in-Placed-clause-goes c =
+    let x = c.requires.spent in
+    goes_placed x.0 c.args.c.now c.args.vs c.args.n c.args.course.now.bucket c.args.course.now.draw.value c.args.lost c.args.zero x.1 c.go_under_back.new.c c.in-Placed.addr (c.in-Placed.ensures (vs_slot ∷ []) (has_spent x.0 c.args.c.now c.args.vs c.args.n c.args.course.now.bucket c.args.course.now.draw.value c.args.lost c.args.zero x.1)) c.give_vs-in-Placed.new.c c.give_vs-in-Placed.ensures
+
+pub returns-in-NoRoom-clause-goes : goal.returns-in-NoRoom-clause-goes
+returns-in-NoRoom-clause-goes c =
+    let x = c.requires.spent in
+    let h = has_spent x.0 c.args.c.now c.args.vs c.args.n c.args.course.now.bucket c.args.course.now.draw.value c.args.lost c.args.zero x.1 in
+    let g = late_under c.args.c.now c.go_under_back.new.c c.args.course.now c.args.lost (calls.Alloc c.args.n h.asking.flags) c.args.n c.args.zero (vs_slot ∷ []) (behind.NoRoom c.in-NoRoom.back c.in-NoRoom.lost) (c.in-NoRoom.ensures (vs_slot ∷ []) h) in
+    (g.rest, g.goes)

@@ -6,6 +6,8 @@ use Rattle.claim_rule.specs.Places.{vs_slot}
 use Rattle.heap_gate.specs.Token.{Token}
 use Rattle.vs_calls.specs.Blocks.{LiesWithin, IsForVs}
 use Rattle.vs_calls.specs.Parts.{Refuses}
+use Rattle.vs_calls.specs.Tries.{LeavesBack}
+use Rattle.vs_calls.proofs.Backward.{placed_leaves}
 use Rattle.vs_calls.proofs.SpanMay.{anew_holds, span_may}
 use Rattle.vs_calls.proofs.NewPlaced.{here_added, here_out, here_back, new_here}
 use Rattle.vs_calls.proofs.NewGiven.{first_added, first_room, first_limits, the_place, new_now, all_added, all_out, all_whole, all_inside, all_tells, anew_placed}
@@ -77,4 +79,11 @@ pub refuse_new-requires-clause-vs : goal.refuse_new-requires-clause-vs
 refuse_new-requires-clause-vs c = subst (λ (k : Token). IsForVs k c.args.n) (sym c.in_default.ensures.none.same) c.requires.placing.bucket
 
 pub returns-in_default-clause-refused : goal.returns-in_default-clause-refused
-returns-in_default-clause-refused c = subst (λ (k : Token). Refuses k c.refuse_new.new.c) c.in_default.ensures.none.same c.refuse_new.ensures
+returns-in_default-clause-refused c = subst (λ (k : Token). Refuses k c.refuse_new.new.c) c.in_default.ensures.none.same c.refuse_new.ensures.refused
+
+pub returns-in_default-clause-leaves : goal.returns-in_default-clause-leaves
+returns-in_default-clause-leaves c = subst (λ (k : Token). LeavesBack k c.refuse_new.new.c) c.in_default.ensures.none.same c.refuse_new.ensures.leaves
+
+pub returns-clause-leaves : goal.returns-clause-leaves
+returns-clause-leaves c = placed_leaves c.args.c.now c.give_vs.new.c c.args.n c.in-Some.addr c.args.zero
+    (anew_placed c.args.c.now c.hold_in_new_span.new.c c.give_back.new.c c.args.vs c.hold_in_new_span.new.vs c.args.back c.hold_in_new_span.new.back c.args.n c.in-Some.addr c.args.zero c.requires.placing c.check.ensures.stands c.region-region.ensures.sound c.requires.size c.in-Some.ensures.held c.give_back.ensures c.hand_over.new.c c.hand_over.ensures c.give_vs.new.c c.give_vs.ensures)

@@ -5,6 +5,7 @@ use Rattle.heap_model.specs.declared.What.TheVariants as whats
 use Rattle.backend_fit.specs.Kept.{layer_of}
 use Rattle.call_parts.proofs.Tokens.{added_none}
 use Rattle.vs_calls.proofs.Shapes.{placed_so, refused_so, blocked_so, added_back}
+use Rattle.vs_calls.proofs.Backward.{placed_leaves, first_none, first_missed, first_taken}
 use Rattle.vs_calls.proofs.TakenBack.{missed_tells, is_anew, none_fits}
 use Rattle.vs_calls.proofs.allocating.place_in_vs.Goals as goal
 
@@ -42,3 +43,23 @@ returns-in-None-clause-refused c =
       refused_so c.args.c.now c.take_back.new.c c.place_in_span.new.c (acts.TakeLock whats.Back ∷ [])
           (added_back layer_of c.args.c.now c.take_back.new.c c.in-Ok.back (calls.Alloc c.args.n v.flags) v.holds.serving c.in-Ok.ensures.ok) refl refl c.in-None.ensures.refused,
     )
+
+pub returns-then-fit-clause-late : goal.returns-then-fit-clause-late
+returns-then-fit-clause-late c = first_none c.args.c.now c.place_in_gap.new.c c.args.vs c.args.n (placed_leaves c.args.c.now c.place_in_gap.new.c c.args.n c.place_in_gap.result c.args.zero c.place_in_gap.ensures)
+
+pub returns-in-Err-clause-late : goal.returns-in-Err-clause-late
+returns-in-Err-clause-late c =
+    let v = c.requires.placing in
+    first_missed c.args.c.now c.take_back.new.c c.give_vs.new.c c.args.vs c.args.n c.in-Err.busy v.holds.serving c.in-Err.ensures.busy c.give_vs.ensures (none_fits c.args.vs c.args.n c.fit.result c.fit.ensures c.if-fit.false)
+
+pub returns-in-Some-clause-late : goal.returns-in-Some-clause-late
+returns-in-Some-clause-late c =
+    let v = c.requires.placing in
+    first_taken c.args.c.now c.take_back.new.c c.place_in_span.new.c c.args.vs c.args.n (added_back layer_of c.args.c.now c.take_back.new.c c.in-Ok.back (calls.Alloc c.args.n v.flags) v.holds.serving c.in-Ok.ensures.ok).goes
+    (none_fits c.args.vs c.args.n c.fit.result c.fit.ensures c.if-fit.false) c.in-Some.ensures.leaves
+
+pub returns-in-None-clause-late : goal.returns-in-None-clause-late
+returns-in-None-clause-late c =
+    let v = c.requires.placing in
+    first_taken c.args.c.now c.take_back.new.c c.place_in_span.new.c c.args.vs c.args.n (added_back layer_of c.args.c.now c.take_back.new.c c.in-Ok.back (calls.Alloc c.args.n v.flags) v.holds.serving c.in-Ok.ensures.ok).goes
+    (none_fits c.args.vs c.args.n c.fit.result c.fit.ensures c.if-fit.false) c.in-None.ensures.leaves
