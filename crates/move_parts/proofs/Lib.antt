@@ -1,0 +1,27 @@
+mod Lists
+mod Held
+mod Swapped
+mod Dropped
+mod Halfway
+mod Filled
+mod Ended
+mod Put
+mod Backed
+mod Known
+mod Holding
+mod LargeHeld
+mod SpansUsed
+mod Area
+mod SpanGone
+mod SpanEnds
+mod VsEnded
+mod GapHeld
+mod Reserved
+mod SpanHeld
+mod Carving
+mod BackReserved
+mod BackHeld
+mod Stays
+mod Moved
+mod HeldLow
+pub mod Shown
