@@ -1,10 +1,11 @@
--- The image of a closed heap can be read, and its blocks are the live ones.
-use Rattle.std.proofs.Common.{◌≡◌, ℕ, suc, Bool, true, false, List, [], ◌∷◌, ◌++◌, Option, Some, None, refl, sym, ap, subst, ◌∙◌, cond}
+-- The image that words and states of layers make can be read, and its blocks are the live ones.
+use Rattle.std.proofs.Common.{◌≡◌, ℕ, suc, Bool, true, false, List, [], ◌∷◌, ◌++◌, length, Option, Some, None, refl, sym, ap, subst, ◌∙◌, cond}
 use Rattle.heap_model.specs.declared.Entry.{Entry}
 use Rattle.heap_model.specs.declared.Opening.{Opening}
 use Rattle.heap_model.specs.declared.What.{What}
 use Rattle.heap_model.specs.declared.What.TheVariants as whats
-use Rattle.heap_model.specs.State.{State, Place, Locks, is_live, live, by_address, open_locks, holder_of, caller_word}
+use Rattle.heap_model.specs.State.{Setting, Place, Locks, is_live, live, by_address, open_locks, holder_of, caller_word}
+use Rattle.heap_model.specs.CallState.{Configuration}
 use Rattle.heap_model.specs.History.{configuration_of}
 use Rattle.heap_soundness.proofs.Lists.{all_at, all_from}
 use Rattle.backend_fit.specs.Kept.{Kept}
@@ -56,24 +57,37 @@ chunks_live g (o ∷ os) = chunk_live g o (places_from (suc g) os) (chunks_live 
 pub same_image : (a b : Image) → a.limits ≡ b.limits → a.region ≡ b.region → a.descs ≡ b.descs → a.key ≡ b.key → a.heads ≡ b.heads → a.large ≡ b.large → a.words ≡ b.words → a ≡ b
 same_image a b l r d k h g w = λ i. record { limits = l i; region = r i; descs = d i; key = k i; heads = h i; large = g i; words = w i }
 
-module _ (o : Opening) (R : List Assignment) (l : List Entry) (words : List ℕ) (vs : VsKept) (back : Kept) (large : LargeTable) (c : AreLeft o R l words vs back large)
-    (slots : have_slots o.limits.slots R ≡ true) (legal : IsLegalWith o R l) (x : Image) (same : x ≡ image o R l words vs back large c) where
-  abbrev st : State
-  st = (configuration_of (setting_of o R) l).state
+module _ (s : Setting) (m : Configuration) (count : ℕ) (words : List ℕ) (vs : VsKept) (back : Kept) (large : LargeTable) (c : AreLeft s m count words vs back large) (known : IsKnownState s m.state) where
+  abbrev left : Image
+  left = image s m count words vs back large c
 
-  known : IsKnownState (setting_of o R) st
-  known = known_state (setting_of o R) l (valid_setting o R c.limits slots) (legal_parts (setting_of o R) l (legal (setting_of o R) (some_setting o R))).0
-
-  pub closes : Shows x (setting_of o R) st
-  closes = subst (λ (y : Image). Shows y (setting_of o R) st) (sym same) (shows o R l words vs back large c known)
+  pub left_shows : Shows left s m.state
+  left_shows = shows s m count words vs back large c known
 
   -- no place of the variable-size layer is in hand
-  vs_live : AreLive st.vs.places
-  vs_live = all_from (λ p. is_live p.status ≡ true) st.vs.places (λ p i.
-      all_at (λ q. is_live q.status ≡ true) p (by_address st.vs.places) (subst AreLive (places_are o R l words vs back large c) (chunks_live 0 vs.chunks.heads)) (in_sorted p st.vs.places i))
+  vs_live : AreLive m.state.vs.places
+  vs_live = all_from (λ p. is_live p.status ≡ true) m.state.vs.places (λ p i.
+      all_at (λ q. is_live q.status ≡ true) p (by_address m.state.vs.places) (subst AreLive (places_are s m count words vs back large c) (chunks_live 0 vs.chunks.heads)) (in_sorted p m.state.vs.places i))
 
-  pub lives : decode x ≡ live st
-  lives = told (setting_of o R) st x known closes vs_live
+  pub left_lives : decode left ≡ live m.state
+  left_lives = told s m.state left known left_shows vs_live
+
+  pub left_readable : IsReadable left
+  left_readable = can_read s m.state left known left_shows vs_live
+
+module _ (o : Opening) (R : List Assignment) (l : List Entry) (words : List ℕ) (vs : VsKept) (back : Kept) (large : LargeTable) (c : AreLeft (setting_of o R) (configuration_of (setting_of o R) l) (length R) words vs back large)
+    (slots : have_slots o.limits.slots R ≡ true) (legal : IsLegalWith o R l) (x : Image) (same : x ≡ image (setting_of o R) (configuration_of (setting_of o R) l) (length R) words vs back large c) where
+  abbrev m : Configuration
+  m = configuration_of (setting_of o R) l
+
+  known : IsKnownState (setting_of o R) m.state
+  known = known_state (setting_of o R) l (valid_setting o R c.limits slots) (legal_parts (setting_of o R) l (legal (setting_of o R) (some_setting o R))).0
+
+  pub closes : Shows x (setting_of o R) m.state
+  closes = subst (λ (y : Image). Shows y (setting_of o R) m.state) (sym same) (left_shows (setting_of o R) m (length R) words vs back large c known)
+
+  pub lives : decode x ≡ live m.state
+  lives = ap decode same ∙ left_lives (setting_of o R) m (length R) words vs back large c known
 
   pub readable : IsReadable x
-  readable = can_read (setting_of o R) st x known closes vs_live
+  readable = subst IsReadable (sym same) (left_readable (setting_of o R) m (length R) words vs back large c known)

@@ -1,3 +1,3 @@
-mod Runs
-mod Shown
-mod Closing
+pub mod Runs
+pub mod Shown
+pub mod Closing

@@ -1,10 +1,9 @@
 -- The image of a closed heap shows the state behind the final history.
-use Rattle.std.proofs.Common.{◌≡◌, ℕ, ◌+◌, ◌-◌, ◌*◌, ◌<◌, ◌≤◌, true, false, List, [], ◌∷◌, map, length, Option, Some, None, refl, sym, ap, subst, ◌∙◌, arith, inl, inr}
+use Rattle.std.proofs.Common.{◌≡◌, ℕ, ◌+◌, ◌-◌, ◌*◌, ◌<◌, ◌≤◌, true, false, List, [], ◌∷◌, map, Option, Some, None, refl, sym, ap, subst, ◌∙◌, arith, inl, inr}
 use Rattle.std.specs.Prelude.{option_and_then, option_map, unwrap_or, slice_index}
 use Rattle.std.specs.List.{AllByRecursion, find, list_any}
 use Rattle.std.specs.Option.{option_map_or, option_or}
 use Rattle.std.proofs.lemmas.Bool.{cases_Bool, or_left, eq-eqb}
-use Rattle.heap_model.specs.declared.Entry.{Entry}
 use Rattle.heap_model.specs.declared.Kind.{Kind}
 use Rattle.heap_model.specs.declared.Kind.TheVariants as kinds
 use Rattle.heap_model.specs.declared.Limits.{Limits}
@@ -12,11 +11,10 @@ use Rattle.heap_model.specs.declared.Opening.{Opening}
 use Rattle.heap_model.specs.declared.Run.{Run}
 use Rattle.heap_model.specs.Runs as model
 use Rattle.heap_model.specs.Limits.{AreValid}
-use Rattle.heap_model.specs.State.{Area, BackPart, VsPart, Span, Place, by_address, is_kind, live_size, has_address}
+use Rattle.heap_model.specs.State.{Setting, Area, BackPart, VsPart, Span, Place, by_address, is_kind, live_size, has_address}
 use Rattle.heap_model.specs.Backend.{free_runs}
 use Rattle.heap_model.specs.Ranges.{gaps_of, vs_spans}
 use Rattle.heap_model.specs.CallState.{Configuration}
-use Rattle.heap_model.specs.History.{configuration_of}
 use Rattle.heap_model.specs.Search.{begins_at, first_of, hint_or, spans_of}
 use Rattle.heap_model.specs.Layers.{StandsForVs, StandsForBack, StandsForLarge}
 use Rattle.heap_soundness.specs.Sound.{IsOneOf, IsSoundSpan, AreAt, IsInVs}
@@ -34,8 +32,6 @@ use Rattle.backend_fit.specs.Sound.{IsSound}
 use Rattle.backend_fit.proofs.Segment.{frees_of}
 use Rattle.backend_fit.proofs.Sounds.{pages_sound}
 use Rattle.backend_fit.proofs.Told.{place_at_address}
-use Rattle.claim_rule.specs.declared.views.Assignment.{Assignment}
-use Rattle.claim_rule.specs.Entries.{setting_of}
 use Rattle.claim_rule.specs.Places.{made_word}
 use Rattle.claim_rule.specs.Shown.{AreAllShown, hint_word}
 use Rattle.vs_headers.specs.declared.Head.{Head}
@@ -110,21 +106,22 @@ hint_from (x ∷ xs) (Some first) f = f first refl
 
 ---- What a heap leaves behind
 
--- the words and the states of the layers, where the back end and the variable-size layer are whole
-pub record AreLeft (o : Opening) (R : List Assignment) (l : List Entry) (words : List ℕ) (vs : VsKept) (back : Kept) (large : LargeTable) : Type 0 where
-  pub limits : AreValid o.limits
-  pub words_are : AreAllShown o.limits (length R) (configuration_of (setting_of o R) l) [] words
-  pub made : slice_index words made_word ≤ o.limits.callers
-  pub vs_is : StandsForVs o (configuration_of (setting_of o R) l).state (vss.layer_of vs)
+-- the opening of a heap with this setting
+abbrev pub opening_of : Setting → Opening
+opening_of s = record { limits = s.limits; seed = s.seed }
+
+-- the words, so many callers having been made, and the states of the layers, where the back end and the variable-size layer are whole
+pub record AreLeft (s : Setting) (m : Configuration) (count : ℕ) (words : List ℕ) (vs : VsKept) (back : Kept) (large : LargeTable) : Type 0 where
+  pub limits : AreValid s.limits
+  pub words_are : AreAllShown s.limits count m [] words
+  pub made : slice_index words made_word ≤ s.limits.callers
+  pub vs_is : StandsForVs (opening_of s) m.state (vss.layer_of vs)
   pub chunks : ShowsChunks vs
-  pub back_is : StandsForBack o (configuration_of (setting_of o R) l).state (backs.layer_of back)
+  pub back_is : StandsForBack (opening_of s) m.state (backs.layer_of back)
   pub sound : IsSound back
-  pub large_is : StandsForLarge o (configuration_of (setting_of o R) l).state (larges.layer_of large)
+  pub large_is : StandsForLarge (opening_of s) m.state (larges.layer_of large)
 
-module _ (o : Opening) (R : List Assignment) (l : List Entry) (words : List ℕ) (vs : VsKept) (back : Kept) (large : LargeTable) (c : AreLeft o R l words vs back large) where
-  abbrev m : Configuration
-  m = configuration_of (setting_of o R) l
-
+module _ (s : Setting) (m : Configuration) (count : ℕ) (words : List ℕ) (vs : VsKept) (back : Kept) (large : LargeTable) (c : AreLeft s m count words vs back large) where
   abbrev area : Area
   area = m.state.back.area
 
@@ -136,7 +133,7 @@ module _ (o : Opening) (R : List Assignment) (l : List Entry) (words : List ℕ)
       let word : slice_index words (134 + 16 * (b - 1) + slot) ≡ hint_word area m.now.span_history b slot = ap (slice_index words) (sym place) ∙ (c.words_are.lfh.hints b slot low high few).0 in
       subst (IsHintOf (spans_of area b slot)) (sym word) (hint_from (spans_of area b slot) (m.now.span_history.hints b slot) (c.words_are.lfh.heads b slot))
 
-  front_shown : ShowsFront o.limits words m.state
+  front_shown : ShowsFront s.limits words m.state
   front_shown = record {
     words_are = record { limits = c.limits; as_long = c.words_are.wide };
     active = c.words_are.lfh.active;
@@ -151,20 +148,20 @@ module _ (o : Opening) (R : List Assignment) (l : List Entry) (words : List ℕ)
   area_is : area_of back ≡ area
   area_is = ap (λ (b : BackPart). b.area) c.back_is.part
 
-  segments : back.region.segments ≡ o.limits.segments
+  segments : back.region.segments ≡ s.limits.segments
   segments = c.sound.segments ∙ ap (λ (x : Limits). x.segments) c.back_is.limits
 
   ---- The image
 
   abbrev pub image : Image
-  image = record { limits = o.limits; region = back.region; descs = back.words; key = key_of o.seed; heads = vs.chunks; large = large; words = words }
+  image = record { limits = s.limits; region = back.region; descs = back.words; key = key_of s.seed; heads = vs.chunks; large = large; words = words }
 
   ---- Places
 
   pub places_are : places_of vs ≡ by_address m.state.vs.places
   places_are = ap (λ (v : VsPart). v.places) c.vs_is.part
 
-  module _ (known : IsKnownState (setting_of o R) m.state) where
+  module _ (known : IsKnownState s m.state) where
     abbrev runs : List Run
     runs = runs_kept back
 
@@ -175,8 +172,8 @@ module _ (o : Opening) (R : List Assignment) (l : List Entry) (words : List ℕ)
     is_long : (r : Run) → IsOneOf r runs → r.mark.kind ≡ kinds.Back → 33 ≤ r.pages
     is_long r i k =
         let there : IsOneOf (span_of r) area.spans = subst (λ (a : Area). IsOneOf (span_of r) a.spans) area_is (Rattle.decode_laws.proofs.Members.in_mapped span_of r runs i) in
-        let of_kind : IsSoundSpan (setting_of o R) m.state.vs.active (span_of r) r.mark.kind = all_at (λ (x : Span). IsSoundSpan (setting_of o R) m.state.vs.active x x.kind) (span_of r) area.spans known.sound.of_kinds there in
-        let of_back : IsSoundSpan (setting_of o R) m.state.vs.active (span_of r) kinds.Back = subst (IsSoundSpan (setting_of o R) m.state.vs.active (span_of r)) k of_kind in
+        let of_kind : IsSoundSpan s m.state.vs.active (span_of r) r.mark.kind = all_at (λ (x : Span). IsSoundSpan s m.state.vs.active x x.kind) (span_of r) area.spans known.sound.of_kinds there in
+        let of_back : IsSoundSpan s m.state.vs.active (span_of r) kinds.Back = subst (IsSoundSpan s m.state.vs.active (span_of r)) k of_kind in
         of_back.0
 
     -- the run of a span, from the span and the places
@@ -186,7 +183,7 @@ module _ (o : Opening) (R : List Assignment) (l : List Entry) (words : List ℕ)
           let k = kind_of r.mark.kind e in
           let long = is_long r i k in
           let fits = mark.fields.unused in
-          let at : find (has_address (4096 * r.first)) m.state.back.places ≡ Some (place_of r) = place_at_address o m.state back c.back_is c.sound (4096 * r.first) ∙ ap (option_map place_of) (all_at (IsFoundIn runs) r runs found i e) in
+          let at : find (has_address (4096 * r.first)) m.state.back.places ≡ Some (place_of r) = place_at_address (opening_of s) m.state back c.back_is c.sound (4096 * r.first) ∙ ap (option_map place_of) (all_at (IsFoundIn runs) r runs found i e) in
           let size : 4096 * r.pages - (4096 * r.pages - r.mark.unused) ≡ r.mark.unused = omega (arith, long, fits) in
           ap (unused_in m.state.back.places (span_of r)) k
           ∙ ap (λ (x : Option Place). 4096 * r.pages - unwrap_or (option_and_then (λ (p : Place). live_size p.status) x) 0) at
@@ -212,7 +209,7 @@ module _ (o : Opening) (R : List Assignment) (l : List Entry) (words : List ℕ)
         let qs = places_of vs in
         let from : find (place_from g) qs ≡ find (place_from g) ps = ap (find (place_from g)) places_are ∙ found_sorted (place_from g) ps (one_start g _ vs_known vs_by_start) in
         let to : find (place_to g) qs ≡ find (place_to g) ps = ap (find (place_to g)) places_are ∙ found_sorted (place_to g) ps (one_end g _ vs_known vs_by_start) in
-        let gaps : gaps_of vs.spans qs ≡ gaps_of (vs_spans area) ps = gaps_are o m.state vs c.vs_is in
+        let gaps : gaps_of vs.spans qs ≡ gaps_of (vs_spans area) ps = gaps_are (opening_of s) m.state vs c.vs_is in
         c.chunks.heads g
         ∙ ap (λ (x : Option Place). shown_by g (units_by g (find (place_to g) qs) (gaps_of vs.spans qs)) x (gaps_of vs.spans qs)) from
         ∙ ap (λ (x : Option Place). shown_by g (units_by g x (gaps_of vs.spans qs)) (find (place_from g) ps) (gaps_of vs.spans qs)) to
@@ -220,7 +217,7 @@ module _ (o : Opening) (R : List Assignment) (l : List Entry) (words : List ℕ)
 
     ---- All of it
 
-    pub shows : Shows image (setting_of o R) m.state
+    pub shows : Shows image s m.state
     shows = record {
       limits = refl;
       key = refl;

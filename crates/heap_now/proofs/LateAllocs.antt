@@ -11,10 +11,12 @@ use Rattle.claim_rule.specs.Entries.{entry}
 use Rattle.heap_gate.specs.Token.{Token}
 use Rattle.heap_gate.specs.Calls.{with_prepared, stance, HasTurnedBack}
 use Rattle.call_parts.proofs.Joining.{goes_prepared, goes_does, goes_then}
-use Rattle.small_calls.specs.Late.{HasSpentFirst, TriesNeither, TriesLate, IsLate}
+use Rattle.small_calls.specs.Late.{HasSpentFirst, TriesNeither, TriesLate, IsLate, BacksLate}
 use Rattle.small_calls.proofs.SeenActive.{seen_later}
 use Rattle.small_calls.proofs.Late.{neither_late}
-use Rattle.small_calls.proofs.Tries.{behind_more, behind_then, spent_later, one_behind}
+use Rattle.small_calls.proofs.Backs.{backs_before, backs_then}
+use Rattle.vs_calls.proofs.Tries.{behind_more, behind_then, one_behind}
+use Rattle.small_calls.proofs.Tries.{spent_later}
 use Rattle.heap_now.specs.Calls.{HasBegun, HasGone}
 
 -- where another owns the heap lock
@@ -55,3 +57,6 @@ module _ (a b d e : Token) (call : Call) (g : HasBegun a b call) (l : HasGone d 
 
   pub whole_late : (n : ℕ) → IsLate b d n → IsLate a e n
   whole_late n x k is seen = framed k (x k is (seen_later a b first k g.goes seen))
+
+  pub whole_backs : (n : ℕ) → BacksLate b d n → BacksLate a e n
+  whole_backs n x = backs_then a d e n last (backs_before a b d n first g.goes refl x) l.goes refl

@@ -6,3 +6,4 @@ pub mod AddressParts
 pub mod Locking
 pub mod TaggedCalls
 pub mod Callers
+pub mod Walks

@@ -20,6 +20,7 @@ pub use call_parts::State;
 pub use compact_calls::compact as compact_now;
 pub use locks::{lock_now, unlock_now};
 pub use open::open_heap;
+pub use walk_calls::walk_next;
 
 /// A heap that threads share.
 pub type Heap = heap_gate::Heap<State>;

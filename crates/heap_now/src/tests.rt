@@ -6,11 +6,13 @@ mod full;
 mod held;
 mod sharing;
 mod threads;
+mod walks;
 
 use super::*;
 use heap_gate::{join, make_caller, meet};
 use heap_model::{
-    AllocNo, Busy, Flags, FreeNo, Limits, LockNo, NotOwner, OutOfMemory, What, WordNo,
+    AllocNo, Block, Busy, Flags, FreeNo, Layer, Limits, LockNo, NotLocked, NotOwner, OutOfMemory,
+    What, WordNo,
 };
 use std::alloc::Global;
 use std::process::Abort;

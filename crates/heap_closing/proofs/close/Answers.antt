@@ -1,7 +1,8 @@
-use Rattle.std.proofs.Common.{◌≡◌, refl, sym, ap, subst, ◌∙◌}
+use Rattle.std.proofs.Common.{◌≡◌, length, refl, sym, ap, subst, ◌∙◌}
 use Rattle.heap_model.specs.declared.Opening.{Opening}
 use Rattle.heap_model.specs.Limits.{AreValid}
 use Rattle.heap_model.specs.Layers.{StandsForVs, StandsForBack, StandsForLarge}
+use Rattle.claim_rule.specs.Entries.{setting_of}
 use Rattle.call_parts.specs.declared.state.State.{State}
 use Rattle.call_parts.specs.States.{layer_of}
 use Rattle.layout_decode.specs.declared.Image.{Image}
@@ -14,7 +15,7 @@ use Rattle.heap_closing.proofs.close.Goals as goal
 opened : (c : goal.After-into_parts-region) → c.args.heap.opening ≡ c.args.root.opening
 opened c = sym c.requires.table.1
 
-left : (c : goal.After-into_parts-region) → AreLeft c.args.root.opening c.args.root.roll c.args.root.seen c.close_table-words.result.words c.in-Vs-Back-Large.vs c.in-Vs-Back-Large.back c.in-Vs-Back-Large.large
+left : (c : goal.After-into_parts-region) → AreLeft (setting_of c.args.root.opening c.args.root.roll) (last_of c.args.root) (length c.args.root.roll) c.close_table-words.result.words c.in-Vs-Back-Large.vs c.in-Vs-Back-Large.back c.in-Vs-Back-Large.large
 left c =
     let o = c.args.root.opening in
     let st = (last_of c.args.root).state in
@@ -41,7 +42,7 @@ told c = record {
   words = c.close_table-words.result.words;
 }
 
-same : (c : goal.After-into_parts-region) → told c ≡ image c.args.root.opening c.args.root.roll c.args.root.seen c.close_table-words.result.words c.in-Vs-Back-Large.vs c.in-Vs-Back-Large.back c.in-Vs-Back-Large.large (left c)
+same : (c : goal.After-into_parts-region) → told c ≡ image (setting_of c.args.root.opening c.args.root.roll) (last_of c.args.root) (length c.args.root.roll) c.close_table-words.result.words c.in-Vs-Back-Large.vs c.in-Vs-Back-Large.back c.in-Vs-Back-Large.large (left c)
 same c =
     same_image (told c) _
     (c.limits-limits.ensures.limits ∙ ap (λ (x : Opening). x.limits) (opened c)) c.into_parts-region.ensures.region c.into_parts-region.ensures.descs

@@ -4,6 +4,7 @@ ghost use Rattle.heap_now.specs.Calls.{IsCallerOf};
 ghost use Rattle.heap_now.specs.Callers.{IsFreeCaller, IsRootOf, IsInStay, MayGo, HoldsVs, HoldsBoth, HoldsAll, HasInHand};
 
 use super::full::bit_of;
+use super::walks::{compact, step};
 use super::*;
 use crate::frame::{enter_call, leave_call};
 use backend_fit::Back;
@@ -16,7 +17,7 @@ use vs_layer::Vs;
 
 // Enters.
 #[tactic(auto, using(crate::proofs::Callers::in_stay, crate::proofs::Callers::stay_goes))]
-fn enter(rt: &impl Abort, heap: &Heap, c: &mut Caller)
+pub(super) fn enter(rt: &impl Abort, heap: &Heap, c: &mut Caller)
     requires { IsFreeCaller heap.now c.old }
     ensures serving { IsInStay heap.now c.new }
     ensures may_go { MayGo heap.now c.new }
@@ -26,7 +27,7 @@ fn enter(rt: &impl Abort, heap: &Heap, c: &mut Caller)
 
 // Leaves.
 #[tactic(auto, using(crate::proofs::Callers::gone_free))]
-fn go_out(heap: &Heap, c: &mut Caller)
+pub(super) fn go_out(heap: &Heap, c: &mut Caller)
     requires { MayGo heap.now c.old }
     ensures { IsFreeCaller heap.now c.new }
 {
@@ -300,7 +301,7 @@ fn a_block_in_hand_is_not_live(rt: HostRuntime) -> Result<(), Fail> {
 
 // Takes the heap lock, or finds it so.
 #[tactic(auto, using(crate::proofs::Locking::locked_again))]
-fn lock(rt: &impl Abort, heap: &Heap, c: &mut Caller, want: Result<(), LockNo>)
+pub(super) fn lock(rt: &impl Abort, heap: &Heap, c: &mut Caller, want: Result<(), LockNo>)
     requires { IsCallerOf heap.now c.old }
     ensures { IsCallerOf heap.now c.new }
 {
@@ -309,7 +310,7 @@ fn lock(rt: &impl Abort, heap: &Heap, c: &mut Caller, want: Result<(), LockNo>)
 
 // Gives the heap lock back once.
 #[tactic(auto, using(crate::proofs::Locking::unlocked_again))]
-fn unlock(rt: &impl Abort, heap: &Heap, c: &mut Caller)
+pub(super) fn unlock(rt: &impl Abort, heap: &Heap, c: &mut Caller)
     requires { IsCallerOf heap.now c.old }
     ensures { IsCallerOf heap.now c.new }
 {
@@ -318,7 +319,7 @@ fn unlock(rt: &impl Abort, heap: &Heap, c: &mut Caller)
 
 // Has none to give back.
 #[tactic(auto, using(crate::proofs::Callers::owns_nothing))]
-fn own_nothing(rt: &impl Abort, heap: &Heap, c: &mut Caller)
+pub(super) fn own_nothing(rt: &impl Abort, heap: &Heap, c: &mut Caller)
     requires { IsCallerOf heap.now c.old }
     ensures { IsFreeCaller heap.now c.new }
 {
@@ -329,7 +330,7 @@ fn own_nothing(rt: &impl Abort, heap: &Heap, c: &mut Caller)
 
 // Both callers meet, and the root takes them in.
 #[tactic(auto, using(crate::proofs::Callers::first_met, crate::proofs::Callers::second_met, crate::proofs::Callers::root_joined))]
-fn end(heap: &Heap, root: &mut Root, mut a: Caller, mut b: Caller)
+pub(super) fn end(heap: &Heap, root: &mut Root, mut a: Caller, mut b: Caller)
     requires root { IsRootOf heap.now root.old }
     requires a { IsFreeCaller heap.now a }
     requires b { IsFreeCaller heap.now b }
@@ -346,6 +347,7 @@ fn the_heap_lock_keeps_others_outside(rt: HostRuntime) -> Result<(), Fail> {
     let (heap, mut root, mut a, mut b) = two(rt.alloc(), 0, 1, 0, 1)?;
     let what = What::Gate;
     enter(&rt, &heap, &mut b);
+    assert_eq!(rt; compact(&heap, &mut a), Err(Busy { what, word: 1 }));
     lock(
         &rt,
         &heap,
@@ -357,7 +359,9 @@ fn the_heap_lock_keeps_others_outside(rt: HostRuntime) -> Result<(), Fail> {
     lock(&rt, &heap, &mut a, Ok(()));
     let outside = Busy { what, word: 65536 };
     free_all(&rt, &heap, &mut b, &[(8192, Err(FreeNo::Busy(outside)))]);
+    assert_eq!(rt; step(&heap, &mut b, 0), Err(NotLocked));
     own_nothing(&rt, &heap, &mut b);
+    assert_eq!(rt; step(&heap, &mut a, 0), Ok(None));
     unlock(&rt, &heap, &mut a);
     unlock(&rt, &heap, &mut a);
     own_nothing(&rt, &heap, &mut a);

@@ -226,7 +226,9 @@ fn work_in_four<R: Threads + Sync>(
 
 // A heap of four segments and 1,024 large pages, with four callers of two slots.
 #[tactic(auto, using(crate::proofs::Callers::fresh_free, crate::proofs::Callers::root_still))]
-fn four(alloc: Global) -> Result<(Heap, Root, (Caller, Caller), (Caller, Caller)), OutOfMemory>
+pub(super) fn four(
+    alloc: Global,
+) -> Result<(Heap, Root, (Caller, Caller), (Caller, Caller)), OutOfMemory>
     ensures root { IfOk result (λ r. IsRootOf r.0 r.1) }
     ensures ab { IfOk result (λ r. IsFreeCaller r.0 r.2.0 × IsFreeCaller r.0 r.2.1) }
     ensures cd { IfOk result (λ r. IsFreeCaller r.0 r.3.0 × IsFreeCaller r.0 r.3.1) }

@@ -1,8 +1,9 @@
 use Rattle.std.proofs.Common.{◌∙◌, inl}
 use Rattle.heap_model.specs.declared.Call.TheVariants as calls
+use Rattle.small_calls.proofs.Backs.{backs_neither}
 use Rattle.heap_now.specs.Calls.{MayTake, alloc_answer}
 use Rattle.heap_now.proofs.Frames.{stays_inside, ends_with}
-use Rattle.heap_now.proofs.LateAllocs.{turned_late, whole_late}
+use Rattle.heap_now.proofs.LateAllocs.{turned_late, whole_late, whole_backs}
 use Rattle.heap_now.proofs.alloc.alloc_now.Goals as goal
 
 pub returns-in-Err-clause-ends : goal.returns-in-Err-clause-ends
@@ -29,3 +30,10 @@ returns-in-Err-clause-late c = turned_late c.args.c.now c.enter_call.new.c c.arg
 pub returns-clause-late : goal.returns-clause-late
 returns-clause-late c =
     whole_late c.args.c.now c.enter_call.new.c c.place_any-placed.new.c c.leave_call.new.c (calls.Alloc c.args.n c.args.flags) c.in_default.ensures.entered c.leave_call.ensures c.args.n c.place_any-placed.ensures.late
+
+pub returns-in-Err-clause-backs : goal.returns-in-Err-clause-backs
+returns-in-Err-clause-backs c few = backs_neither c.args.c.now c.enter_call.new.c c.args.n c.in-Err.ensures.neither
+
+pub returns-clause-backs : goal.returns-clause-backs
+returns-clause-backs c few =
+    whole_backs c.args.c.now c.enter_call.new.c c.place_any-placed.new.c c.leave_call.new.c (calls.Alloc c.args.n c.args.flags) c.in_default.ensures.entered c.leave_call.ensures c.args.n (c.place_any-placed.ensures.backs few)

@@ -1,0 +1,5 @@
+use Rattle.heap_now.specs.Calls.{IsCallerOf}
+use Rattle.heap_now.proofs.tests.walks.lock_often.Given as goal
+
+abbrev pub invariant-loop : goal.invariant-loop
+invariant-loop g l = IsCallerOf l.heap l.c

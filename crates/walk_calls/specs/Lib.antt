@@ -1,0 +1,5 @@
+pub mod Words
+pub mod Seen
+pub mod Locks
+pub mod Walk
+pub mod Laws
