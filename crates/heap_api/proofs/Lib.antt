@@ -1,0 +1,3 @@
+pub mod Waiting
+pub mod Made
+pub mod Callers

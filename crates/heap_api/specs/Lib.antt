@@ -1,0 +1,2 @@
+pub mod AtLast
+pub mod Locks

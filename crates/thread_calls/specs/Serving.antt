@@ -1,0 +1,40 @@
+-- What a caller does for a call that its thread asks, whether it takes a step or is answered by the depth.
+use Rattle.std.specs.Prelude.{◌≡◌, Bool, true, false, List}
+use mathlib.Core.List.{IsPrefix}
+use Rattle.heap_model.specs.declared.Call.{Call}
+use Rattle.heap_model.specs.declared.Call.TheVariants as calls
+use Rattle.heap_model.specs.declared.Reply.{Reply}
+use Rattle.heap_model.specs.declared.Reply.TheVariants as replies
+use Rattle.heap_model.specs.History.{configuration_of}
+use Rattle.heap_model.specs.Moments.{moments}
+use Rattle.heap_model.specs.Served.{IsTried, IsServed, by_depth, depth_after}
+use Rattle.heap_gate.specs.Token.{Token, Always}
+use Rattle.heap_now.specs.Calls.{IsReady}
+
+-- a call that threads can make so far
+abbrev pub IsServable : Call → Type 0
+IsServable (calls.Realloc addr n flags) = ⊥
+IsServable (calls.WalkNext from) = ⊥
+IsServable calls.Stay = ⊥
+IsServable call = Unit {0}
+
+-- the reply is the last one that a command gets: no block that a walk has seen, behind which it goes on
+abbrev pub is_last : Reply → Bool
+is_last (replies.Seen block) = false
+is_last _ = true
+
+-- The caller's list goes on, and the caller is ready to call again. How often it has the heap lock is not said.
+pub record Goes (old new : Token) : Type 0 where
+  pub table : new.table ≡ old.table
+  pub opening : new.opening ≡ old.opening
+  pub number : new.number ≡ old.number
+  pub roll : IsPrefix old.roll new.roll
+  pub seen : IsPrefix old.seen new.seen
+  pub ready : IsReady new
+
+-- The call got these replies by what the caller has done since: it tried until no other caller was in the way, or took no step where the depth
+-- answers it. The depth is what the replies leave.
+pub record Serves (old new : Token) (call : Call) (its : List Reply) : Type 0 where
+  pub goes : Goes old new
+  pub depth : new.depth ≡ depth_after old.depth call its
+  pub served : Always new (λ s. IsServed (λ asked reply xs. IsTried s old.number asked reply xs) (by_depth old.depth call) call its (moments s old.number (configuration_of s old.seen) goes.seen.0))
