@@ -4,3 +4,4 @@ pub mod BlockLemmas
 pub mod Ranges
 pub mod LargeLemmas
 pub mod TallyLemmas
+pub mod AnswerLemmas

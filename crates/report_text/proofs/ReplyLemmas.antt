@@ -1,6 +1,5 @@
 -- What the rest of the replies gives, put behind what stands, is what all of them give.
-use Rattle.std.proofs.Common.{◌≡◌, ℕ, zero, suc, ◌+◌, ◌-◌, ◌<◌, ◌≤◌, Bool, true, false, if◌then◌else◌, List, [], ◌∷◌, ◌++◌, length, drop, get_or, Some, None, option_map, refl, sym, ap, ◌∙◌, arith, append_assoc, append-nil, length-append, map}
-use Rattle.std.specs.Prelude.{slice_set}
+use Rattle.std.proofs.Common.{◌≡◌, ℕ, zero, suc, ◌+◌, ◌<◌, ◌≤◌, Bool, true, false, if◌then◌else◌, List, [], ◌∷◌, ◌++◌, length, drop, get_or, Some, None, option_map, refl, sym, ap, ◌∙◌, arith, append_assoc, append-nil, map}
 use Rattle.std.specs.List.{slice_get}
 use Rattle.std.proofs.lemmas.List.{drop_all}
 use Rattle.std.proofs.lemmas.Option.{slice_get-map, slice_get-get_or, slice_get_read, slice_get_past}
@@ -134,24 +133,3 @@ rounds_end s i rss old whole l w =
 
 pub answers_end : (i n : ℕ) (css : List (List (List Command))) (rss : List (List (List Reply))) (old whole : List ℕ) → length rss ≤ n → old ++ script_lines i css (drop n rss) ≡ whole → old ≡ whole
 answers_end i n css rss old whole l w = put_all old _ whole (ap (script_lines i css) (drop_all n rss l) ∙ no_answers i css) w
-
----- Answers
-
-set_end : {A : Type 0} (front : List A) (last x : A) (i : ℕ) → i ≡ length front → slice_set (front ++ last ∷ []) i x ≡ front ++ x ∷ []
-set_end [] last x i e = rw e refl
-set_end (y ∷ ys) last x zero e = absurd (omega arith)
-set_end (y ∷ ys) last x (suc i) e = ap (λ zs. y ∷ zs) (set_end ys last x i (omega arith))
-
-at_end : {A : Type 0} (front : List A) (last d : A) (i : ℕ) → i ≡ length front → get_or (front ++ last ∷ []) i d ≡ last
-at_end [] last d i e = rw e refl
-at_end (y ∷ ys) last d zero e = absurd (omega arith)
-at_end (y ∷ ys) last d (suc i) e = at_end ys last d i (omega arith)
-
--- a thread is added to the last round
-pub thread_added : (all front : List (List (List Reply))) (last old new : List (List Reply)) (rs : List Reply) (i : ℕ) → all ≡ front ++ last ∷ [] → i ≡ length all - 1 → old ≡ get_or all i old → new ≡ old ++ rs ∷ [] →
-    slice_set all i new ≡ front ++ (last ++ rs ∷ []) ∷ []
-thread_added all front last old new rs i e n o p =
-    let len : length all ≡ length front + 1 = ap length e ∙ length-append front (last ∷ []) in
-    let at : i ≡ length front = omega arith in
-    let was : old ≡ last = o ∙ ap (λ (xs : List (List (List Reply))). get_or xs i old) e ∙ at_end front last old i at in
-    ap (λ (xs : List (List (List Reply))). slice_set xs i new) e ∙ set_end front last new i at ∙ ap (λ (x : List (List Reply)). front ++ x ∷ []) (p ∙ ap (λ (x : List (List Reply)). x ++ rs ∷ []) was)

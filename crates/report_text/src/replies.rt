@@ -1,28 +1,24 @@
 // The lines of replies: by round, then thread, then command.
-ghost use Rattle.std.specs.Prelude.{◌≡◌, ◌+◌, ◌<◌, ◌++◌, length, ◌^◌, map, OnOk, string_bytes, if◌then◌else◌};
+ghost use Rattle.std.specs.Prelude.{◌≡◌, ◌+◌, ◌<◌, [], ◌++◌, length, ◌^◌, map, slice_index_or, OnOk, string_bytes, if◌then◌else◌};
 ghost use Rattle.script_text.specs.Scripts.{commands_of, command_of, round_at};
 ghost use Rattle.report_text.specs.Report.{script_lines, round_lines, thread_lines, reply_line, is_seen};
 ghost use Rattle.report_text.specs.Commands.{round_commands};
 
-use crate::answers::{RoundAnswers, ThreadAnswers};
+use crate::answers::Answers;
 use crate::words::{push_reply, push_word, word_of_command};
 use heap_model::{OutOfMemory, Reply};
 use script_text::{Command, CommandLine, Script};
 use std::alloc::AllocError;
 
-pub fn push_rounds(
-    text: &mut String,
-    script: &Script,
-    rounds: &[RoundAnswers],
-) -> Result<(), OutOfMemory>
-    ensures { OnOk result (string_bytes text.new ≡ string_bytes text.old ++ script_lines 0 (commands_of script.now) rounds.now) }
+pub fn push_rounds(text: &mut String, script: &Script, answers: &Answers) -> Result<(), OutOfMemory>
+    ensures { OnOk result (string_bytes text.new ≡ string_bytes text.old ++ script_lines 0 (commands_of script.now) answers.now) }
 {
     let count = script.rounds();
-    for (round, answers) in rounds.iter().enumerate() {
+    for round in 0..answers.count() {
         if round >= count as usize {
             return Ok(());
         }
-        push_threads(text, script, round as u32, answers.threads())?;
+        push_threads(text, script, round as u32, answers)?;
     }
     Ok(())
 }
@@ -31,19 +27,21 @@ fn push_threads(
     text: &mut String,
     script: &Script,
     round: u32,
-    threads: &[ThreadAnswers],
+    answers: &Answers,
 ) -> Result<(), OutOfMemory>
-    requires { round < length script.now.rounds }
+    requires round { round < length script.now.rounds }
+    requires answered { round < length answers.now }
     ensures { OnOk result (string_bytes text.new
-        ≡ string_bytes text.old ++ round_lines round 0 (round_commands (round_at script.now round)) threads.now) }
+        ≡ string_bytes text.old ++ round_lines round 0 (round_commands (round_at script.now round)) (slice_index_or answers.now round [])) }
 {
     let count = script.threads(round);
-    for (thread, answers) in threads.iter().enumerate() {
+    for thread in 0..answers.threads(round as usize) {
         if thread >= count as usize {
             return Ok(());
         }
         let commands = script.commands(round, thread as u32);
-        push_thread(text, round, thread as u32, commands, answers.replies())?;
+        let replies = answers.replies(round as usize, thread);
+        push_thread(text, round, thread as u32, commands, replies)?;
     }
     Ok(())
 }

@@ -1,11 +1,11 @@
-// What is counted for a summary. A count of more than 64 bits is None; no replies and no commands in memory are so many.
+// What is counted for a summary. A count of commands of more than 64 bits is None; no commands in memory are so many.
 ghost use Rattle.std.specs.Prelude.{◌≡◌, ◌<◌, length, IfSome};
 ghost use Rattle.script_text.specs.Scripts.{commands_of, round_at};
 ghost use Rattle.report_text.specs.Commands.{round_commands};
 ghost use Rattle.report_text.specs.Summary.{commands_in, commands_of_round};
-ghost use Rattle.report_text.specs.Tally.{both, tally_of_thread, tally_of_round, tally_of};
+ghost use Rattle.report_text.specs.Tally.{tally_of_replies, tally_of};
 
-use crate::answers::{RoundAnswers, ThreadAnswers};
+use crate::answers::Answers;
 use heap_model::Reply;
 use script_text::Script;
 
@@ -24,28 +24,14 @@ const NOTHING: Tally = Tally {
 };
 
 impl Tally {
-    pub fn of_answers(rounds: &[RoundAnswers]) -> Option<Tally>
-        ensures { IfSome result (λ tally. tally ≡ tally_of rounds.now) }
+    pub fn of_answers(answers: &Answers) -> Tally
+        ensures { result ≡ tally_of answers.now }
     {
-        let mut tally = NOTHING;
-        for round in rounds {
-            tally = tally.plus(Tally::of_round(round.threads())?)?;
-        }
-        Some(tally)
+        Tally::of_replies(answers.all())
     }
 
-    fn of_round(threads: &[ThreadAnswers]) -> Option<Tally>
-        ensures { IfSome result (λ tally. tally ≡ tally_of_round threads.now) }
-    {
-        let mut tally = NOTHING;
-        for thread in threads {
-            tally = tally.plus(Tally::of_thread(thread.replies()))?;
-        }
-        Some(tally)
-    }
-
-    fn of_thread(replies: &[Reply]) -> Tally
-        ensures { result ≡ tally_of_thread replies.now }
+    fn of_replies(replies: &[Reply]) -> Tally
+        ensures { result ≡ tally_of_replies replies.now }
     {
         let mut tally = NOTHING;
         for reply in replies {
@@ -57,16 +43,6 @@ impl Tally {
             }
         }
         tally
-    }
-
-    fn plus(self, other: Tally) -> Option<Tally>
-        ensures { IfSome result (λ sum. sum ≡ both self other) }
-    {
-        Some(Tally {
-            no_fit: self.no_fit.checked_add(other.no_fit)?,
-            not_live: self.not_live.checked_add(other.not_live)?,
-            past: self.past.checked_add(other.past)?,
-        })
     }
 }
 

@@ -1,7 +1,7 @@
 -- The rounds of lines, line by line.
-use Rattle.std.proofs.Common.{◌≡◌, ℕ, zero, suc, ◌<◌, ◌≤◌, Bool, false, cond, eqb, List, [], ◌∷◌, ◌++◌, length, map, get_or, slice_set, ◌-◌, refl, ap, sym, ◌∙◌, arith, inl, inr, one-add, append_assoc, append-nil}
+use Rattle.std.proofs.Common.{◌≡◌, ℕ, zero, suc, ◌<◌, ◌≤◌, Bool, cond, List, [], ◌∷◌, ◌++◌, length, map, get_or, refl, ap, ◌∙◌, arith, inl, inr, one-add, append_assoc, append-nil}
 use Rattle.std.specs.List.{before_first}
-use Rattle.std.proofs.lemmas.Bool.{cases_Bool, eqb-false}
+use Rattle.std.proofs.lemmas.Bool.{cases_Bool}
 use Rattle.std.proofs.lemmas.List.{map-append, length-map}
 use Rattle.std.proofs.lemmas.List.Elements.{filter_map-append}
 use Rattle.script_text.specs.Pieces.{marked_pieces, cut_before}
@@ -165,15 +165,7 @@ round_few before i = omega (arith, get_mapped (cut_before is_round before) i, an
 pub rounds_few : (before : List NumberedLine) → length (rounds_of before) ≤ length before
 rounds_few before = rw (length-map (cut_before is_round before) threads_of) (pieces_few is_round before)
 
----- A change in place
-
-pub has_items : (b : Bool) (n : ℕ) → b ≡ eqb n 0 → b ≡ false → 0 < n
-has_items b n e f = let z = eqb-false n 0 (sym e ∙ f) in omega (arith, z)
-
-pub last_changed : {X : Type 0} (f : X → X) (first : X) (xs : List X) (i : ℕ) (old new : X) → 0 < length xs → i ≡ length xs - 1 → old ≡ get_or xs i old → new ≡ f old →
-    slice_set xs i new ≡ change_last f first xs
-last_changed f first [] i old new some e o n = absurd (omega (arith, some))
-last_changed f first (x ∷ []) zero old new some e o n = ap (λ y. y ∷ []) (n ∙ ap f o)
-last_changed f first (x ∷ []) (suc i) old new some e o n = absurd (omega (arith, e))
-last_changed f first (x ∷ y ∷ ys) zero old new some e o n = absurd (omega (arith, e))
-last_changed f first (x ∷ y ∷ ys) (suc i) old new some e o n = ap (λ zs. x ∷ zs) (last_changed f first (y ∷ ys) i old new (omega arith) (omega (arith, e)) o n)
+-- one round of one thread
+pub one_few : {X : Type 0} (x : X) (n i : ℕ) → 0 < n → length (get_or ((x ∷ []) ∷ []) i []) ≤ n
+one_few x n zero l = omega (arith, l)
+one_few x n (suc i) l = omega arith

@@ -8,6 +8,7 @@ pub mod GrownLemmas
 pub mod OrderLemmas
 pub mod SaidLemmas
 pub mod ReadingLemmas
-pub mod UnbuiltLemmas
 pub mod GeneratorLemmas
 pub mod TakenLemmas
+pub mod MarkLemmas
+pub mod FlatLemmas

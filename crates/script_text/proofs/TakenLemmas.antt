@@ -1,10 +1,9 @@
 -- One line more is taken.
-use Rattle.std.proofs.Common.{◌≡◌, ℕ, ◌+◌, ◌<◌, List, [], ◌∷◌, ◌++◌, length, get_or, Some, None, Ok, Err, refl, ap, sym, ◌∙◌, subst, arith, length-append}
+use Rattle.std.proofs.Common.{◌≡◌, ℕ, ◌+◌, List, [], ◌∷◌, ◌++◌, Some, None, Ok, Err, refl, ap, sym, ◌∙◌, subst, arith, length-append}
 use Rattle.script_text.specs.Order.{cause_at, cause_behind, AreCounted}
 use Rattle.script_text.specs.Counted.{counted}
 use Rattle.script_text.specs.Grown.{rounds_with}
 use Rattle.script_text.specs.Reading.{noted}
-use Rattle.script_text.specs.Rounds.{rounds_of}
 use Rattle.script_text.specs.Taken.{IsTaken, IsNoted}
 use Rattle.script_text.specs.ThreadLines.{ThreadLines}
 use Rattle.script_text.specs.declared.faults.Cause.{Cause}
@@ -12,7 +11,7 @@ use Rattle.script_text.specs.declared.commands.Line.{Line}
 use Rattle.script_text.specs.declared.commands.NumberedLine.{NumberedLine}
 use Rattle.script_text.specs.declared.counts.Counts.{Counts}
 use Rattle.script_text.proofs.OrderLemmas.{same_cause, counted_push}
-use Rattle.script_text.proofs.GrownLemmas.{rounds_more, round_few}
+use Rattle.script_text.proofs.GrownLemmas.{rounds_more}
 
 pub taken_more : (rounds rounds' : List (List ThreadLines)) (k k' : Counts) (m n : ℕ) (l : Line) (before : List NumberedLine) → cause_at k.depth k.threads k.walks l ≡ None →
     rounds' ≡ rounds_with n l rounds → k' ≡ counted k l → IsTaken rounds k m before → IsNoted before n (Some l) rounds' k' (m + 1)
@@ -41,8 +40,3 @@ pub cause_found : (rounds : List (List ThreadLines)) (k : Counts) (m n : ℕ) (l
 cause_found rounds k m n l cause before some h =
     let e : cause_behind before l ≡ Some cause = sym (same_cause k before l h.counted) ∙ some in
     rw e refl
-
-pub few_threads : (rounds : List (List ThreadLines)) (k : Counts) (m i : ℕ) (before : List NumberedLine) → m < 1048576 → IsTaken rounds k m before → length (get_or rounds i []) < 1048576
-few_threads rounds k m i before l h =
-    let e : length (get_or rounds i []) ≡ length (get_or (rounds_of before) i []) = ap (λ rs. length (get_or rs i [])) h.rounds_are in
-    omega (arith, e, round_few before i, h.few)

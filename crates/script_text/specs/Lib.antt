@@ -10,13 +10,14 @@ pub mod Order
 pub mod Counted
 pub mod ThreadLines
 pub mod Grown
+pub mod Marks
+pub mod Flat
 pub mod Rounds
 pub mod Reading
 pub mod Taken
 pub mod Scripts
 pub mod Unbuilt
 pub mod Values
-pub mod Seen
 pub mod Generator
 pub mod Drawing
 pub mod Calls

@@ -1,5 +1,5 @@
 -- What a script tells.
-use Rattle.std.specs.Prelude.{ℕ, max, List, [], ◌∷◌, length, map, fold, slice_get, slice_index_or, Option, None}
+use Rattle.std.specs.Prelude.{ℕ, max, ◌≤◌, List, [], ◌∷◌, length, map, fold, slice_get, slice_index_or, Option, None}
 use Rattle.std.specs.Option.{option_map, option_or}
 use Rattle.script_text.specs.declared.commands.Command.{Command}
 use Rattle.script_text.specs.declared.commands.CommandLine.{CommandLine}
@@ -40,3 +40,8 @@ first_second (round ∷ rounds) = option_or (second_thread round) (first_second 
 -- the most threads of a round
 abbrev pub most_threads : List (List ThreadLines) → ℕ
 most_threads rounds = fold (λ most round. max most (length round)) 0 rounds
+
+-- a text of at most 1,048,576 bytes has no more rounds, and no more threads in any of them
+pub record AreFew (rounds : List (List ThreadLines)) : Type 0 where
+  pub in_text : length rounds ≤ 1048576
+  pub in_round : (round : ℕ) → length (slice_index_or rounds round []) ≤ 1048576

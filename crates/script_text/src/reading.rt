@@ -13,20 +13,20 @@ use crate::counts::Counts;
 use crate::faults::{Cause, ScriptFault, ScriptNo};
 use crate::lines::cut_line;
 use crate::numbering::Names;
-use crate::rounds::{Round, add_line};
+use crate::rounds::Rounds;
 use crate::saying::say;
 use std::alloc::Global;
 
 /// The rounds of the lines that were read so far, and the counts of them.
 #[derive(Drop)]
 pub struct Taken {
-    pub rounds: Vec<Round>,
+    pub rounds: Rounds,
     pub counts: Counts,
 }
 
 impl Taken {
     fn new(alloc: Global) -> Self
-        ensures taken { IsTaken result.rounds.items result.counts 0 [] }
+        ensures taken { IsTaken result.rounds result.counts 0 [] }
         ensures within { IsWithin result.counts 0 }
     {
         let counts = Counts {
@@ -35,7 +35,7 @@ impl Taken {
             walks: 0,
         };
         Taken {
-            rounds: Vec::new(alloc),
+            rounds: Rounds::new(alloc),
             counts,
         }
     }
@@ -48,13 +48,13 @@ impl Taken {
         said: Option<Line>,
         limit: u32,
     ) -> Result<(), ScriptNo>
-        requires taken { (before : List NumberedLine) × IsTaken self.old.rounds.items self.old.counts limit before }
+        requires taken { (before : List NumberedLine) × IsTaken self.old.rounds self.old.counts limit before }
         requires within { IsWithin self.old.counts limit }
         requires room { limit < 1048576 }
-        ensures noted { IfOk result (λ _. (before : List NumberedLine) → IsTaken self.old.rounds.items self.old.counts limit before →
-            IsNoted before number said self.new.rounds.items self.new.counts (limit + 1)) }
+        ensures noted { IfOk result (λ _. (before : List NumberedLine) → IsTaken self.old.rounds self.old.counts limit before →
+            IsNoted before number said self.new.rounds self.new.counts (limit + 1)) }
         ensures within { IfOk result (λ _. IsWithin self.new.counts (limit + 1)) }
-        ensures fault { IfErr result (λ no. (before : List NumberedLine) → IsTaken self.old.rounds.items self.old.counts limit before →
+        ensures fault { IfErr result (λ no. (before : List NumberedLine) → IsTaken self.old.rounds self.old.counts limit before →
             IsRefusedAs (noted before number (Ok said)) no) }
     {
         match said {
@@ -64,13 +64,13 @@ impl Taken {
     }
 
     fn place(&mut self, alloc: Global, number: u32, line: Line, limit: u32) -> Result<(), ScriptNo>
-        requires taken { (before : List NumberedLine) × IsTaken self.old.rounds.items self.old.counts limit before }
+        requires taken { (before : List NumberedLine) × IsTaken self.old.rounds self.old.counts limit before }
         requires within { IsWithin self.old.counts limit }
         requires room { limit < 1048576 }
-        ensures noted { IfOk result (λ _. (before : List NumberedLine) → IsTaken self.old.rounds.items self.old.counts limit before →
-            IsNoted before number (Some line) self.new.rounds.items self.new.counts (limit + 1)) }
+        ensures noted { IfOk result (λ _. (before : List NumberedLine) → IsTaken self.old.rounds self.old.counts limit before →
+            IsNoted before number (Some line) self.new.rounds self.new.counts (limit + 1)) }
         ensures within { IfOk result (λ _. IsWithin self.new.counts (limit + 1)) }
-        ensures fault { IfErr result (λ no. (before : List NumberedLine) → IsTaken self.old.rounds.items self.old.counts limit before →
+        ensures fault { IfErr result (λ no. (before : List NumberedLine) → IsTaken self.old.rounds self.old.counts limit before →
             IsRefusedAs (noted before number (Ok (Some line))) no) }
     {
         match self.counts.cause(line) {
@@ -79,7 +79,7 @@ impl Taken {
                 cause,
             })),
             None => {
-                add_line(alloc, &mut self.rounds, number, line)?;
+                self.rounds.add_line(number, line)?;
                 self.counts = self.counts.after(line, limit);
                 Ok(())
             }
@@ -87,10 +87,10 @@ impl Taken {
     }
 
     /// The rounds of a text that ends here.
-    fn end(self, number: u32, limit: u32) -> Result<Vec<Round>, ScriptNo>
-        ensures ended { IfOk result (λ rounds. (before : List NumberedLine) → IsTaken self.rounds.items self.counts limit before →
-            (ended before number ≡ Ok before) × (rounds.items ≡ rounds_of before)) }
-        ensures fault { IfErr result (λ no. (before : List NumberedLine) → IsTaken self.rounds.items self.counts limit before →
+    fn end(self, number: u32, limit: u32) -> Result<Rounds, ScriptNo>
+        ensures ended { IfOk result (λ rounds. (before : List NumberedLine) → IsTaken self.rounds self.counts limit before →
+            (ended before number ≡ Ok before) × (rounds ≡ rounds_of before)) }
+        ensures fault { IfErr result (λ no. (before : List NumberedLine) → IsTaken self.rounds self.counts limit before →
             IsRefusedAs (ended before number) no) }
     {
         if self.counts.depth != 0 {
@@ -107,14 +107,14 @@ impl Taken {
 /// The rounds of a text, and how many names it has.
 #[derive(Drop)]
 pub struct ReadText {
-    pub rounds: Vec<Round>,
+    pub rounds: Rounds,
     pub names: u32,
 }
 
 /// Reads the lines of a text that is not too long.
 pub fn read_lines(alloc: Global, text: &[u8]) -> Result<ReadText, ScriptNo>
     requires { length text.now ≤ 1048576 }
-    ensures rounds { IfOk result (λ read. (lines : List NumberedLine) × (lines_read text.now ≡ Ok lines) × (read.rounds.items ≡ rounds_of lines)
+    ensures rounds { IfOk result (λ read. (lines : List NumberedLine) × (lines_read text.now ≡ Ok lines) × (read.rounds ≡ rounds_of lines)
         × (length lines ≤ 1048576)) }
     ensures names { IfOk result (λ read. read.names ≡ different (names_in (lines_of text.now))) }
     ensures fault { IfErr result (IsRefusedAs (lines_read text.now)) }

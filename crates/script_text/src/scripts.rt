@@ -1,14 +1,14 @@
 // A script.
-ghost use Rattle.std.specs.Prelude.{◌≡◌, ◌<◌, ◌≤◌, length, Ok, Err, Some, None, IfOk, IfErr};
+ghost use Rattle.std.specs.Prelude.{◌≡◌, ◌<◌, [], length, slice_index_or, Ok, Err, Some, None, IfOk, IfErr};
 ghost use Rattle.script_text.specs.Generator.{one_thread};
 ghost use Rattle.script_text.specs.Reading.{reading_of, IsRefusedAs};
-ghost use Rattle.script_text.specs.Scripts.{round_at, thread_at, command_at, second_thread, first_second, most_threads};
+ghost use Rattle.script_text.specs.Scripts.{AreFew, round_at, thread_at, command_at, second_thread, first_second, most_threads};
 ghost use Rattle.script_text.specs.Unbuilt.{first_unbuilt};
 
 use crate::commands::{Command, CommandLine};
 use crate::faults::{Cause, ScriptFault, ScriptNo};
 use crate::reading::read_lines;
-use crate::rounds::{Round, Thread};
+use crate::rounds::Rounds;
 use crate::unbuilt::unbuilt_in;
 use std::alloc::{AllocError, Global};
 use std::marker::Model;
@@ -16,19 +16,19 @@ use std::marker::Model;
 /// A text that was read: its rounds, each with its threads, each with its commands.
 #[derive(Drop)]
 pub struct Script {
-    rounds: Vec<Round>,
+    rounds: Rounds,
     names: u32,
 }
 
 impl Model for Script {
-    ghost use Rattle.std.specs.Prelude.{length, ◌≤◌};
     ghost use Rattle.script_text.specs.ThreadLines.{ScriptLines};
+    ghost use Rattle.script_text.specs.Scripts.{AreFew};
 
     ghost Value = { ScriptLines };
 
-    ghost view = { λ s. record { names = s.names; rounds = s.rounds.items } };
+    ghost view = { λ s. record { names = s.names; rounds = s.rounds } };
 
-    ghost invariant = { λ s. length s.rounds.items ≤ 1048576 };
+    ghost invariant = { λ s. AreFew s.rounds };
 }
 
 /// The most bytes that a text may have.
@@ -60,10 +60,7 @@ impl Script {
     ) -> Result<Script, AllocError>
         ensures { IfOk result (λ script. script ≡ one_thread names commands.items) }
     {
-        let mut threads = Vec::new(alloc);
-        threads.push(Thread { line: 0, commands })?;
-        let mut rounds = Vec::new(alloc);
-        rounds.push(Round { threads })?;
+        let rounds = Rounds::of_thread(alloc, commands)?;
         Ok(Script { rounds, names })
     }
 
@@ -73,7 +70,7 @@ impl Script {
         ensures line { IfErr result (λ fault. first_second self.now.rounds ≡ Some fault.line) }
         ensures cause { IfErr result (λ fault. fault.cause ≡ Cause.NotSingle) }
     {
-        match second_in(self.rounds.as_slice()) {
+        match second_in(&self.rounds) {
             Some(line) => {
                 let cause = Cause::NotSingle;
                 Err(ScriptFault { line, cause })
@@ -86,7 +83,7 @@ impl Script {
     pub fn most_threads(&self) -> u32
         ensures { result ≡ most_threads self.now.rounds }
     {
-        most_in(self.rounds.as_slice())
+        most_in(&self.rounds)
     }
 
     /// How many names stand in the text.
@@ -99,7 +96,7 @@ impl Script {
     pub fn rounds(&self) -> u32
         ensures { result ≡ length self.now.rounds }
     {
-        self.rounds.len() as u32
+        self.rounds.count() as u32
     }
 
     /// How many threads a round has.
@@ -107,7 +104,7 @@ impl Script {
         requires { round < length self.now.rounds }
         ensures { result ≡ length (round_at self.now round) }
     {
-        threads_of(&self.rounds[round as usize])
+        self.rounds.threads(round as usize) as u32
     }
 
     /// The commands of a thread, each with its line.
@@ -116,9 +113,7 @@ impl Script {
         requires thread { thread < length (round_at self.now round) }
         ensures { result.now ≡ (thread_at self.now round thread).commands }
     {
-        let round = &self.rounds[round as usize];
-        let thread = &round.threads[thread as usize];
-        thread.commands.as_slice()
+        self.rounds.commands(round as usize, thread as usize)
     }
 
     /// Command number `k` of a thread, if it has so many.
@@ -127,9 +122,8 @@ impl Script {
         requires thread { thread < length (round_at self.now round) }
         ensures { result ≡ command_at self.now round thread k }
     {
-        let round = &self.rounds[round as usize];
-        let thread = &round.threads[thread as usize];
-        match thread.commands.get(k as usize) {
+        let commands = self.commands(round, thread);
+        match commands.get(k as usize) {
             Some(line) => Some(line.command),
             None => None,
         }
@@ -137,36 +131,30 @@ impl Script {
 }
 
 impl Script {
-    /// The line of the first command that the program does not run at a level, of 2 to 6.
-    pub fn first_unbuilt(&self, level: u8) -> Option<u32>
-        requires low { 2 ≤ level }
-        requires high { level ≤ 6 }
-        ensures { result ≡ first_unbuilt level self.now.rounds }
+    /// The line of the first command that the program does not run.
+    pub fn first_unbuilt(&self) -> Option<u32>
+        ensures { result ≡ first_unbuilt self.now.rounds }
     {
-        unbuilt_in(level, self.rounds.as_slice())
+        unbuilt_in(self.rounds.all_commands())
     }
 }
 
-fn threads_of(round: &Round) -> u32
-    ensures { result ≡ length round.now }
+/// The line of a round's second thread.
+fn second_of(rounds: &Rounds, round: usize) -> Option<u32>
+    requires { round < length rounds.now }
+    ensures { result ≡ second_thread (slice_index_or rounds.now round []) }
 {
-    round.threads.len() as u32
-}
-
-fn second_of(round: &Round) -> Option<u32>
-    ensures { result ≡ second_thread round.now }
-{
-    match round.threads.get(1) {
-        Some(thread) => Some(thread.line),
-        None => None,
+    if rounds.threads(round) < 2 {
+        return None;
     }
+    Some(rounds.line(round, 1))
 }
 
-fn second_in(rounds: &[Round]) -> Option<u32>
+fn second_in(rounds: &Rounds) -> Option<u32>
     ensures { result ≡ first_second rounds.now }
 {
-    for round in rounds {
-        match second_of(round) {
+    for round in 0..rounds.count() {
+        match second_of(rounds, round) {
             Some(line) => return Some(line),
             None => {}
         }
@@ -174,12 +162,13 @@ fn second_in(rounds: &[Round]) -> Option<u32>
     None
 }
 
-fn most_in(rounds: &[Round]) -> u32
+fn most_in(rounds: &Rounds) -> u32
+    requires { AreFew rounds.now }
     ensures { result ≡ most_threads rounds.now }
 {
     let mut most = 0;
-    for round in rounds {
-        most = most.max(threads_of(round));
+    for round in 0..rounds.count() {
+        most = most.max(rounds.threads(round) as u32);
     }
     most
 }

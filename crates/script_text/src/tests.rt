@@ -211,30 +211,18 @@ size a1234567890123456789012345678902\nsize A\n",
     Ok(())
 }
 
-/// The line of the first command that is not built at a level, and 0 where there is none.
-fn unbuilt(script: &Script, level: u8) -> u32 {
-    if 2 <= level && level <= 6 {
-        script.first_unbuilt(level).unwrap_or(0)
-    } else {
-        0
-    }
-}
-
 #[test]
-fn levels(rt: HostRuntime) -> Result<(), Fail> {
+fn first_command_that_is_not_built(rt: HostRuntime) -> Result<(), Fail> {
     let alloc = rt.alloc();
     let script = read_script(
         alloc,
-        b"alloc a 131073\nfree a\nalloc a 131073\nalloc b 520193\nlock\nunlock\n",
+        b"alloc a 131073\nzalloc b 520193\nput a 0 1\nget a 0\nsize b\nfree a\n",
     )?;
-    assert_eq!(rt; unbuilt(&script, 2), 3);
-    assert_eq!(rt; unbuilt(&script, 3), 4);
-    assert_eq!(rt; unbuilt(&script, 5), 4);
-    assert_eq!(rt; unbuilt(&script, 6), 5);
-    let script = read_script(alloc, lines(alloc, b"alloc a 16368\n", 18)?.as_slice())?;
-    assert_eq!(rt; unbuilt(&script, 3), 1);
-    assert_eq!(rt; unbuilt(&script, 4), 18);
-    assert_eq!(rt; unbuilt(&script, 5), 0);
+    assert_eq!(rt; script.first_unbuilt(), None);
+    let script = read_script(alloc, b"alloc a 16\n\ninplace a 8\nwalk\n")?;
+    assert_eq!(rt; script.first_unbuilt(), Some(3));
+    let script = read_script(alloc, b"lock\nunlock\ncompact\n")?;
+    assert_eq!(rt; script.first_unbuilt(), Some(1));
     Ok(())
 }
 

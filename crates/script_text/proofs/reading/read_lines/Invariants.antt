@@ -10,7 +10,7 @@ use Rattle.script_text.proofs.reading.read_lines.Given as goal
 abbrev pub invariant-loop-rest : goal.invariant-loop-rest
 invariant-loop-rest l = record {
   rest : lines_of l.rest ≡ drop l.number (lines_of l.text);
-  taken : (before : List NumberedLine) × IsTaken l.taken.rounds.items l.taken.counts l.number before
+  taken : (before : List NumberedLine) × IsTaken l.taken.rounds l.taken.counts l.number before
       × (lines_from (names_in (lines_of l.text)) before (l.number + 1) (lines_of l.rest) ≡ lines_read l.text);
   named : AreNumbered l.names.numbers (names_in (take l.number (lines_of l.text)));
   within : IsWithin l.taken.counts l.number;
