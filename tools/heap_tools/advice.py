@@ -10,9 +10,10 @@ import sys
 sys.path.insert(0, os.path.dirname(os.path.dirname(os.path.realpath(__file__))))
 from heap_tools import common, script
 
-OPTIONS = ('--mode', '--segments')
+OPTIONS = ('--mode', '--segments', '--large')
 MODES = ('one',)
 MOST_SEGMENTS = 16
+MOST_LARGE = 4_096
 MOST_NAMES = 5
 
 
@@ -43,16 +44,20 @@ def words_fault(words):
     if words[1] not in MODES:
         near = nearest(words[1], MODES)
         return f'"{words[1]}" is no mode{f"; did you mean {near}?" if near else ""} (one is the one that is built)'
-    if len(words) == 2:
+    rest = words[2:]
+    for option, what, least, most in (('--segments', 'segments', 1, MOST_SEGMENTS), ('--large', 'large pages', 0, MOST_LARGE)):
+        if rest and rest[0] == option:
+            if len(rest) < 2:
+                return f'{option} needs a value behind it, {least} to {most:,}'
+            value = script.number(os.fsencode(rest[1]))
+            if value is None or not least <= value <= most:
+                return f'"{rest[1]}" is no number of {what}: {option} takes {least} to {most:,}'
+            rest = rest[2:]
+    if not rest:
         return None
-    if words[2] != '--segments':
-        return f'"{words[2]}" stands where only --segments may: {option_hint(words[2])}'
-    if len(words) < 4:
-        return '--segments needs a value behind it, 1 to 16'
-    value = script.number(os.fsencode(words[3]))
-    if value is None or not 1 <= value <= MOST_SEGMENTS:
-        return f'"{words[3]}" is no number of segments: --segments takes 1 to {MOST_SEGMENTS}'
-    return None if len(words) == 4 else f'"{words[4]}" is a word too many'
+    if rest[0] in OPTIONS:
+        return f'"{rest[0]}" stands at a wrong place: the words are --mode one, then --segments N or nothing, then --large G or nothing'
+    return f'"{rest[0]}" stands where only --segments or --large may: {option_hint(rest[0])}'
 
 
 def option_hint(word):
@@ -60,7 +65,7 @@ def option_hint(word):
     if '=' in word and head in OPTIONS:
         return f'write the value as a word of its own, {head} {word.partition("=")[2]}'
     near = nearest(head, OPTIONS)
-    return f'did you mean {near}?' if near and near != word else 'the words are --mode one, then --segments N or nothing'
+    return f'did you mean {near}?' if near and near != word else 'the words are --mode one, then --segments N or nothing, then --large G or nothing'
 
 
 def quoted(fault, text):
@@ -97,17 +102,14 @@ def script_fault(text):
     return None
 
 
-BUILT = ('alloc', 'free', 'size')
-BUILT_MOST = 520_192
+BUILT = ('alloc', 'zalloc', 'free', 'size', 'get', 'put')
 
 
 def is_built(command):
-    return command.word in BUILT and (command.size is None or command.size <= BUILT_MOST)
+    return command.word in BUILT
 
 
 def why_not_built(command):
-    if command.word == 'alloc':
-        return f'{command.size:,} bytes are more than {BUILT_MOST:,}: such blocks belong to the large area, which the program does not have yet'
     return f'"{command.word}" is a word of the language, and the program does not run it yet'
 
 

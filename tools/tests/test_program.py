@@ -105,7 +105,7 @@ class Program(unittest.TestCase):
             (['--mode', 'one', '--segment', '1'], '', 2, 'usage fault\n', ['did you mean --segments?']),
             (['--mode', 'one'], 'alloc a 5\n alocate x 3\n', 3, 'line 2 badline\n', ['line 2: alocate x 3', 'did you mean "alloc NAME SIZE"?']),
             (['--mode', 'one'], 'free\n', 3, 'line 1 badline\n', ['line 1: free', 'needs 1 field behind it and has 0']),
-            (['--mode', 'one'], 'put x 0 1\n', 3, 'line 1 notbuilt\n', ['line 1: put x 0 1', 'does not run it yet']),
+            (['--mode', 'one'], 'inplace x 1\n', 3, 'line 1 notbuilt\n', ['line 1: inplace x 1', 'does not run it yet']),
             (['--mode', 'one'], 'thread\nthread\n', 3, 'line 2 notsingle\n', ['one caller']),
             (['--mode', 'one'], 'free y\n', 0, '0 0 free notlive\nblocks 0 bytes 0\n', ['line 1: "free y"', 'the reply is notlive']),
             (['--mode', 'one'], 'free @5\n', 0, '0 0 free notlive\nblocks 0 bytes 0\n', []),

@@ -61,12 +61,13 @@ class Advice(unittest.TestCase):
             self.assertEqual(advice.nearest(word, script.FIELDS), near, word)
 
     def test_words(self):
-        for words in (['--mode', 'one'], ['--mode', 'one', '--segments', '1'], ['--mode', 'one', '--segments', '00016']):
+        for words in (['--mode', 'one'], ['--mode', 'one', '--segments', '1'], ['--mode', 'one', '--segments', '00016'], ['--mode', 'one', '--large', '0'], ['--mode', 'one', '--segments', '1', '--large', '4096']):
             self.assertIsNone(advice.words_fault(words))
         for words, part in [
             ([], '--mode is missing'), (['--mdoe', 'one'], 'did you mean --mode?'), (['--mode'], 'needs a value'), (['--mode', 'on'], 'did you mean one?'),
             (['--mode', 'one', '--segment', '2'], 'did you mean --segments?'), (['--mode', 'one', '--segments=2'], '--segments 2'),
-            (['--mode', 'one', '--segments', '17'], '1 to 16'), (['--mode', 'one', '--segments', '0'], '1 to 16'), (['--mode', 'one', '--segments', '2', 'x'], 'too many'),
+            (['--mode', 'one', '--segments', '17'], '1 to 16'), (['--mode', 'one', '--segments', '0'], '1 to 16'), (['--mode', 'one', '--segments', '2', 'x'], 'stands where only'),
+            (['--mode', 'one', '--large', '4097'], '0 to 4,096'), (['--mode', 'one', '--large', '1', '--segments', '1'], 'wrong place'),
         ]:
             self.assertIn(part, advice.words_fault(words))
 
@@ -74,7 +75,7 @@ class Advice(unittest.TestCase):
         for text, parts in [
             ('alloc x', ['line 1: alloc x', 'needs 2 fields', 'alloc NAME SIZE']), ('alloc x 0x10', ['write 16']), ('alloc x -1', ['no negative']),
             ('alloc 9 1', ['@9']), ('alloc @8 1', ['is an address']), ('lock', ['the end of the text', '1 deep']), ('realloc x 1', ['does not run it yet']),
-            ('alloc x 520193', ['large area']), ('thread\nthread', ['line 2: thread', 'one caller']),
+            ('thread\nthread', ['line 2: thread', 'one caller']),
         ]:
             fault = advice.script_fault(text.encode())
             said = advice.quoted(fault, text.encode()) + ' ' + advice.fault_words(fault)

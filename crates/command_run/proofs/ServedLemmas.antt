@@ -1,7 +1,7 @@
 -- A script in which nothing is left that is not built has commands that are served alone.
-use Rattle.std.proofs.Common.{◌≡◌, ℕ, zero, suc, ◌<◌, Bool, true, false, List, [], ◌∷◌, ◌++◌, map, get_or, Option, Some, None, refl, ap, subst, ◌∙◌, arith, leb-true, inl, inr}
-use Rattle.std.specs.Prelude.{length, count_by}
-use Rattle.std.specs.List.{AllByRecursion, list_any}
+use Rattle.std.proofs.Common.{◌≡◌, ℕ, zero, suc, ◌<◌, true, false, List, [], ◌∷◌, ◌++◌, map, get_or, Option, Some, None, refl, ap, subst, ◌∙◌, arith, inl, inr}
+use Rattle.std.specs.Prelude.{length}
+use Rattle.std.specs.List.{AllByRecursion}
 use Rattle.std.specs.Option.{option_or, option_map}
 use Rattle.std.proofs.lemmas.Bool.{cases_Bool, false≢true}
 use Rattle.script_text.specs.declared.commands.Command.{Command}
@@ -9,21 +9,20 @@ use Rattle.script_text.specs.declared.commands.Command.TheVariants as commands
 use Rattle.script_text.specs.declared.commands.CommandLine.{CommandLine}
 use Rattle.script_text.specs.ThreadLines.{ThreadLines, ScriptLines}
 use Rattle.script_text.specs.Scripts.{command_of, commands_of, first_second}
-use Rattle.script_text.specs.Unbuilt.{is_free, is_small, is_built, is_built_behind, unbuilt_behind, of_threads, of_rounds, first_unbuilt}
-use Rattle.solo_heap.specs.Standing.{IsBuilt}
+use Rattle.script_text.specs.Unbuilt.{is_built, unbuilt_of, of_threads, of_rounds, first_unbuilt}
+use Rattle.one_heap.specs.Lone.{IsBuilt}
 use Rattle.command_run.specs.Commands.{call_of, in_threads, in_rounds, round_commands}
 use Rattle.command_run.specs.Running.{IsServed, AreServed}
 use Rattle.command_run.specs.Due.{not_single, not_built, unfit}
 
 -- a command that is served makes a call that is built
 pub call_built : (v : ℕ → ℕ) (c : Command) → IsServed c → IsBuilt (call_of v c)
-call_built v (commands.Alloc name n false) s = (s, refl)
-call_built v (commands.Alloc name n true) s = absurd s
+call_built v (commands.Alloc name n zeroed) s = tt
 call_built v (commands.Free target) s = tt
 call_built v (commands.Size target) s = tt
+call_built v (commands.Get target index) s = tt
+call_built v (commands.Put target index value) s = tt
 call_built v (commands.Realloc target n in_place) s = absurd s
-call_built v (commands.Get target index) s = absurd s
-call_built v (commands.Put target index value) s = absurd s
 call_built v commands.Lock s = absurd s
 call_built v commands.Unlock s = absurd s
 call_built v commands.Walk s = absurd s
@@ -50,23 +49,22 @@ mapped_at P f (x ∷ xs) (suc i) d a l = mapped_at P f xs i d a.1 (omega arith)
 
 ---- Scripts
 
-built_served : (freed : Bool) (small : ℕ) (c : Command) → is_built 5 freed small c ≡ true → IsServed c
-built_served freed small (commands.Alloc name n false) h = leb-true n 520192 h
-built_served freed small (commands.Alloc name n true) h = absurd (false≢true h)
-built_served freed small (commands.Realloc target n in_place) h = absurd (false≢true h)
-built_served freed small (commands.Free target) h = tt
-built_served freed small (commands.Size target) h = tt
-built_served freed small (commands.Get target index) h = absurd (false≢true h)
-built_served freed small (commands.Put target index value) h = absurd (false≢true h)
-built_served freed small commands.Lock h = absurd (false≢true h)
-built_served freed small commands.Unlock h = absurd (false≢true h)
-built_served freed small commands.Walk h = absurd (false≢true h)
-built_served freed small commands.Compact h = absurd (false≢true h)
+built_served : (c : Command) → is_built c ≡ true → IsServed c
+built_served (commands.Alloc name n zeroed) h = tt
+built_served (commands.Free target) h = tt
+built_served (commands.Size target) h = tt
+built_served (commands.Get target index) h = tt
+built_served (commands.Put target index value) h = tt
+built_served (commands.Realloc target n in_place) h = absurd (false≢true h)
+built_served commands.Lock h = absurd (false≢true h)
+built_served commands.Unlock h = absurd (false≢true h)
+built_served commands.Walk h = absurd (false≢true h)
+built_served commands.Compact h = absurd (false≢true h)
 
-all_served : (before : List Command) (cs : List CommandLine) → unbuilt_behind 5 before cs ≡ None → AreServed (map command_of cs)
-all_served before [] h = tt
-all_served before (c ∷ cs) h = elim (cases_Bool (is_built_behind 5 before c.command)) [
-  | inl e ↦ (built_served (list_any is_free before) (count_by is_small before) c.command e, all_served (before ++ c.command ∷ []) cs (rw e at h))
+all_served : (cs : List CommandLine) → unbuilt_of cs ≡ None → AreServed (map command_of cs)
+all_served [] h = tt
+all_served (c ∷ cs) h = elim (cases_Bool (is_built c.command)) [
+  | inl e ↦ (built_served c.command e, all_served cs (rw e at h))
   | inr e ↦ let z : Some c.line ≡ None = rw e at h in absurd (let y : ⊥ = cc in y)
 ]
 
@@ -91,4 +89,4 @@ nothing_unbuilt None None h = refl
 nothing_unbuilt None (Some l) h = absurd (let z : ⊥ = cc in z)
 
 pub fit_served : (s : ScriptLines) → unfit s ≡ None → AreServed (in_rounds (commands_of s))
-fit_served s u = subst AreServed (rounds_are s.rounds) (all_served [] (of_rounds s.rounds) (nothing_unbuilt (first_second s.rounds) (first_unbuilt 5 s.rounds) u))
+fit_served s u = subst AreServed (rounds_are s.rounds) (all_served (of_rounds s.rounds) (nothing_unbuilt (first_second s.rounds) (first_unbuilt s.rounds) u))

@@ -1,9 +1,7 @@
 // The commands of a script, run one after another on a heap of one caller.
 ghost use Rattle.std.specs.Prelude.{◌≡◌, ◌<◌, [], ◌∷◌, ◌++◌, IfOk, length, false, List, ℕ};
-ghost use Rattle.heap_model.specs.CallState.{Configuration};
 ghost use Rattle.heap_model.specs.declared.Call.TheVariants as calls;
 ghost use Rattle.heap_model.specs.declared.Reply.{Reply};
-ghost use Rattle.solo_heap.specs.Standing.{Stands};
 ghost use Rattle.script_text.specs.Scripts.{commands_of, round_at};
 ghost use Rattle.command_run.specs.Values.{value_at};
 ghost use Rattle.command_run.specs.Commands.{unassigned, address_of, call_of, assigned, assigned_placed, assigned_moved, in_threads, in_rounds, round_commands, thread_commands};
@@ -11,17 +9,21 @@ ghost use Rattle.command_run.specs.Running.{IsServed, AreServed, Runs, RoundRuns
 
 use crate::values::Values;
 use heap_model::{Call, Flags, OutOfMemory, Reply};
+use one_heap::OneHeap;
 use report_text::Answers;
 use script_text::{Command, CommandLine, Script, Target};
-use solo_heap::Solo;
 use std::alloc::{AllocError, Global};
 
 /// The replies to the commands of a script, round after round and thread after thread.
-pub fn run_rounds(alloc: Global, heap: &mut Solo, script: &Script) -> Result<Answers, OutOfMemory>
+pub fn run_rounds(
+    alloc: Global,
+    heap: &mut OneHeap,
+    script: &Script,
+) -> Result<Answers, OutOfMemory>
     requires { AreServed (in_rounds (commands_of script.now)) }
     ensures fit { IfOk result (λ answers. Fit (commands_of script.now) answers) }
-    ensures runs { IfOk result (λ answers. (m : Configuration) → Stands heap.old m → (later : List ℕ)
-        × Runs heap.old heap.new unassigned (value_at later) (in_rounds (commands_of script.now)) (in_rounds answers) m) }
+    ensures runs { IfOk result (λ answers. (later : List ℕ)
+        × Runs heap.old heap.new unassigned (value_at later) (in_rounds (commands_of script.now)) (in_rounds answers)) }
 {
     let mut answers = Answers::new(alloc);
     let mut values = Values::new(alloc);
@@ -35,7 +37,7 @@ pub fn run_rounds(alloc: Global, heap: &mut Solo, script: &Script) -> Result<Ans
 /// The replies to the commands of a round, put into the last round of the answers, which has none yet.
 fn run_threads(
     alloc: Global,
-    heap: &mut Solo,
+    heap: &mut OneHeap,
     values: &mut Values,
     script: &Script,
     round: u32,
@@ -57,14 +59,13 @@ fn run_threads(
 /// The replies to the commands of a thread.
 fn run_thread(
     alloc: Global,
-    heap: &mut Solo,
+    heap: &mut OneHeap,
     values: &mut Values,
     commands: &[CommandLine],
 ) -> Result<Vec<Reply>, AllocError>
     requires { AreServed (thread_commands commands.now) }
     ensures each { IfOk result (λ replies. length replies.items ≡ length (thread_commands commands.now)) }
-    ensures runs { IfOk result (λ replies. (m : Configuration) → Stands heap.old m
-        → Runs heap.old heap.new (value_at values.old) (value_at values.new) (thread_commands commands.now) replies.items m) }
+    ensures runs { IfOk result (λ replies. Runs heap.old heap.new (value_at values.old) (value_at values.new) (thread_commands commands.now) replies.items) }
 {
     let mut replies = Vec::new(alloc);
     for line in commands {
@@ -75,10 +76,13 @@ fn run_thread(
 }
 
 /// The reply to a command, whose name then has the value that it assigns.
-fn run_command(heap: &mut Solo, values: &mut Values, command: Command) -> Result<Reply, AllocError>
+fn run_command(
+    heap: &mut OneHeap,
+    values: &mut Values,
+    command: Command,
+) -> Result<Reply, AllocError>
     requires { IsServed command }
-    ensures { IfOk result (λ reply. (m : Configuration) → Stands heap.old m
-        → Runs heap.old heap.new (value_at values.old) (value_at values.new) (command ∷ []) (reply ∷ []) m) }
+    ensures { IfOk result (λ reply. Runs heap.old heap.new (value_at values.old) (value_at values.new) (command ∷ []) (reply ∷ [])) }
 {
     let call = call_for(values, command);
     let reply = heap.serve(&call);

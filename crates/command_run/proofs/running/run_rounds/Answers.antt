@@ -30,10 +30,9 @@ loop-round-preserved c =
     record {
       fit = subst (λ (ts : List (List (List Command))). Fit ts c.run_threads.new.answers) (sym more)
           (subst (λ (bs : List (List (List Reply))). Fit (before ++ threads ∷ []) bs) (sym x.answers_are) (fit_round before answers threads x.last c.loop-round.invariant.fit x.fit));
-      runs = λ m st.
-          let y = c.loop-round.invariant.runs m st in
-          subst (λ (ks : List Command). Runs c.args.heap.now c.run_threads.new.heap unassigned (value_at c.run_threads.new.values) ks (in_rounds c.run_threads.new.answers) m) (sym (ap in_rounds more ∙ rounds_more before threads))
-          (subst (λ (ks : List Reply). Runs c.args.heap.now c.run_threads.new.heap unassigned (value_at c.run_threads.new.values) (in_rounds before ++ in_threads threads) ks m) (sym (ap in_rounds x.answers_are ∙ rounds_more answers x.last))
+      runs =
+          subst (λ (ks : List Command). Runs c.args.heap.now c.run_threads.new.heap unassigned (value_at c.run_threads.new.values) ks (in_rounds c.run_threads.new.answers)) (sym (ap in_rounds more ∙ rounds_more before threads))
+          (subst (λ (ks : List Reply). Runs c.args.heap.now c.run_threads.new.heap unassigned (value_at c.run_threads.new.values) (in_rounds before ++ in_threads threads) ks) (sym (ap in_rounds x.answers_are ∙ rounds_more answers x.last))
           (runs_append c.args.heap.now c.loop-round.heap c.run_threads.new.heap unassigned (value_at c.loop-round.values) (value_at c.run_threads.new.values)
-          (in_rounds before) (in_threads threads) (in_rounds answers) (in_threads x.last) m y (x.runs _ y.stands)));
+          (in_rounds before) (in_threads threads) (in_rounds answers) (in_threads x.last) c.loop-round.invariant.runs x.runs));
     }

@@ -1,6 +1,4 @@
 use Rattle.std.proofs.Common.{take}
-use Rattle.heap_model.specs.CallState.{Configuration}
-use Rattle.solo_heap.specs.Standing.{Stands}
 use Rattle.script_text.specs.Scripts.{commands_of}
 use Rattle.command_run.specs.Values.{value_at}
 use Rattle.command_run.specs.Commands.{unassigned, in_rounds}
@@ -10,5 +8,5 @@ use Rattle.command_run.proofs.running.run_rounds.Given as goal
 abbrev pub invariant-loop-round : goal.invariant-loop-round
 invariant-loop-round l = record {
   fit : Fit (take l.round (commands_of l.script)) l.answers;
-  runs : (m : Configuration) → Stands l.fn.heap m → Runs l.fn.heap l.heap unassigned (value_at l.values) (in_rounds (take l.round (commands_of l.script))) (in_rounds l.answers) m;
+  runs : Runs l.fn.heap l.heap unassigned (value_at l.values) (in_rounds (take l.round (commands_of l.script))) (in_rounds l.answers);
 }

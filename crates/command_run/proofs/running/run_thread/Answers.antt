@@ -24,10 +24,9 @@ loop-line-preserved c =
     let more : take (i + 1) (thread_commands xs) ≡ take i (thread_commands xs) ++ line.command ∷ [] = take_mapped command_of xs i (record { line = 0; command = commands.Alloc 0 0 false }) c.loop-line-test.true in
     record {
       each = ap length pushed ∙ length_append before (r ∷ []) ∙ ap (λ n. n + 1) c.loop-line.invariant.each;
-      runs = λ m st.
-          let x = c.loop-line.invariant.runs m st in
-          subst (λ cs. Runs c.args.heap.now c.run_command.new.heap (value_at c.args.values.now) (value_at c.run_command.new.values) cs c.push.new.self.items m) (sym more)
-          (subst (λ rs. Runs c.args.heap.now c.run_command.new.heap (value_at c.args.values.now) (value_at c.run_command.new.values) (take i (thread_commands xs) ++ line.command ∷ []) rs m) (sym pushed)
+      runs =
+          subst (λ cs. Runs c.args.heap.now c.run_command.new.heap (value_at c.args.values.now) (value_at c.run_command.new.values) cs c.push.new.self.items) (sym more)
+          (subst (λ rs. Runs c.args.heap.now c.run_command.new.heap (value_at c.args.values.now) (value_at c.run_command.new.values) (take i (thread_commands xs) ++ line.command ∷ []) rs) (sym pushed)
           (runs_append c.args.heap.now c.loop-line.heap c.run_command.new.heap (value_at c.args.values.now) (value_at c.loop-line.values) (value_at c.run_command.new.values)
-          (take i (thread_commands xs)) (line.command ∷ []) before (r ∷ []) m x (c.in_ok-reply.ensures _ x.stands)));
+          (take i (thread_commands xs)) (line.command ∷ []) before (r ∷ []) c.loop-line.invariant.runs c.in_ok-reply.ensures));
     }

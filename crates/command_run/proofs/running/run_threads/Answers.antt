@@ -3,10 +3,8 @@ use Rattle.heap_model.specs.declared.Reply.{Reply}
 use Rattle.script_text.specs.declared.commands.Command.{Command}
 use Rattle.script_text.specs.ThreadLines.{ThreadLines}
 use Rattle.script_text.specs.Scripts.{command_of, round_at, thread_at, no_thread}
-use Rattle.solo_heap.specs.Standing.{setting_of}
-use Rattle.serial_laws.specs.OneCall.{end_of}
 use Rattle.command_run.specs.Values.{value_at}
-use Rattle.command_run.specs.Commands.{thread_commands, round_commands, in_threads, calls_of}
+use Rattle.command_run.specs.Commands.{thread_commands, round_commands, in_threads}
 use Rattle.command_run.specs.Running.{IsServed, AreServed, Runs, FitThreads}
 use Rattle.command_run.proofs.RunLemmas.{runs_append}
 use Rattle.command_run.proofs.ServedLemmas.{all_in_threads, mapped_at}
@@ -40,13 +38,12 @@ loop-thread-preserved c =
       last = x.last ++ rs ∷ [];
       answers_are = c.in_ok-add_thread.ensures.added front x.last x.answers_are;
       fit = subst (λ (ts : List (List Command)). FitThreads ts (x.last ++ rs ∷ [])) (sym more) (fit_thread before x.last cs rs x.fit each);
-      runs = λ m st.
-          let y = x.runs m st in
-          let n = end_of (setting_of c.args.heap.now) m (calls_of (value_at c.args.values.now) (in_threads before) (in_threads x.last)) y.rests in
-          let z : Runs c.loop-thread.heap c.run_thread.new.heap (value_at c.loop-thread.values) (value_at c.run_thread.new.values) cs rs n =
-          subst (λ (ks : List Command). Runs c.loop-thread.heap c.run_thread.new.heap (value_at c.loop-thread.values) (value_at c.run_thread.new.values) ks rs n) same (c.in_ok-replies.ensures.runs n y.stands) in
-          subst (λ (ks : List Command). Runs c.args.heap.now c.run_thread.new.heap (value_at c.args.values.now) (value_at c.run_thread.new.values) ks (in_threads (x.last ++ rs ∷ [])) m) (sym (ap in_threads more ∙ threads_more before cs))
-          (subst (λ (ks : List Reply). Runs c.args.heap.now c.run_thread.new.heap (value_at c.args.values.now) (value_at c.run_thread.new.values) (in_threads before ++ cs) ks m) (sym (threads_more x.last rs))
+      runs =
+          let y = x.runs in
+          let z : Runs c.loop-thread.heap c.run_thread.new.heap (value_at c.loop-thread.values) (value_at c.run_thread.new.values) cs rs =
+          subst (λ (ks : List Command). Runs c.loop-thread.heap c.run_thread.new.heap (value_at c.loop-thread.values) (value_at c.run_thread.new.values) ks rs) same c.in_ok-replies.ensures.runs in
+          subst (λ (ks : List Command). Runs c.args.heap.now c.run_thread.new.heap (value_at c.args.values.now) (value_at c.run_thread.new.values) ks (in_threads (x.last ++ rs ∷ []))) (sym (ap in_threads more ∙ threads_more before cs))
+          (subst (λ (ks : List Reply). Runs c.args.heap.now c.run_thread.new.heap (value_at c.args.values.now) (value_at c.run_thread.new.values) (in_threads before ++ cs) ks) (sym (threads_more x.last rs))
           (runs_append c.args.heap.now c.loop-thread.heap c.run_thread.new.heap (value_at c.args.values.now) (value_at c.loop-thread.values) (value_at c.run_thread.new.values)
-          (in_threads before) cs (in_threads x.last) rs m y z));
+          (in_threads before) cs (in_threads x.last) rs y z));
     }

@@ -1,0 +1,4 @@
+mod Only
+mod Unblocked
+mod Serving
+mod Ending

@@ -1,0 +1,66 @@
+-- Where nobody else has a call, no call of caller 0 is blocked.
+use Rattle.std.proofs.Common.{◌≡◌, ℕ, ◌+◌, Bool, true, false, not, ◌==◌, ◌&&◌, cond, if◌then◌else◌, List, [], ◌∷◌, map, Option, Some, None, refl, sym, ap, ◌∙◌, inl, inr}
+use Rattle.std.specs.List.{list_all}
+use Rattle.std.proofs.lemmas.Bool.{cases_Bool, true≢false, and_parts}
+use Rattle.heap_model.specs.declared.Act.{Act}
+use Rattle.heap_model.specs.declared.Act.TheVariants as acts
+use Rattle.heap_model.specs.declared.Busy.{Busy}
+use Rattle.heap_model.specs.declared.Call.{Call}
+use Rattle.heap_model.specs.declared.What.{What}
+use Rattle.heap_model.specs.declared.What.TheVariants as whats
+use Rattle.heap_model.specs.State.{Setting, is_another, holder_of, gate_word}
+use Rattle.heap_model.specs.Stay.{for_some}
+use Rattle.heap_model.specs.CallState.{Configuration, CallState, caller_view, is_outside}
+use Rattle.heap_model.specs.Legal.{may, may_follow, after, call_after, is_begin, is_lock_or_compact}
+use Rattle.heap_model.specs.History.{may_all_follow}
+use Rattle.heap_model.specs.Alone.{by_zero}
+use Rattle.heap_model.specs.Shape.{shape_of, is_left_out, blocked}
+use Rattle.call_laws.proofs.Goes.{goes_on}
+use Rattle.call_laws.proofs.Within.{updated_here}
+use Rattle.one_heap.proofs.Only.{IsOnly, after_only}
+
+-- no lock is held by another
+held_by_other : (o : Option ℕ) (word : ℕ) → is_another 0 o ≡ false → for_some o (λ d. not (d == 0) && word == d + 1) ≡ false
+held_by_other None word n = refl
+held_by_other (Some d) word n = ap (λ (b : Bool). b && word == d + 1) n
+
+turned : (o : Option Call) (call : Call) (owns empty : Bool) (owner : Option ℕ) → o ≡ Some call → is_lock_or_compact call ≡ false → is_another 0 owner ≡ false →
+    for_some o (λ c. if is_lock_or_compact c then not owns && not empty else is_another 0 owner) ≡ false
+turned o call owns empty owner e p n = rw (e, p) n
+
+not_blocked : (s : Setting) (m : Configuration) (call : Call) (what : What) (word : ℕ) → IsOnly m → (m.now.calls 0).call ≡ Some call → is_lock_or_compact call ≡ false →
+    may s m 0 (acts.Blocked what word) ≡ true → ⊥
+not_blocked s m call whats.Gate word only e p h =
+    let k = caller_view m 0 in
+    let f = m.state.gate in
+    let last = (and_parts (is_outside k && word == gate_word f) (for_some k.call.call (λ c. if is_lock_or_compact c then not k.owns && not (word == 0) else is_another 0 f.owner)) h).1 in
+    true≢false (sym last ∙ turned (m.now.calls 0).call call k.owns (word == 0) f.owner e p only.owner)
+not_blocked s m call whats.Lfh word only e p h = true≢false (sym h ∙ held_by_other (holder_of m.state.gate.locks whats.Lfh) word (only.locks whats.Lfh))
+not_blocked s m call whats.Vs word only e p h = true≢false (sym h ∙ held_by_other (holder_of m.state.gate.locks whats.Vs) word (only.locks whats.Vs))
+not_blocked s m call whats.Back word only e p h = true≢false (sym h ∙ held_by_other (holder_of m.state.gate.locks whats.Back) word (only.locks whats.Back))
+not_blocked s m call whats.Large word only e p h = true≢false (sym h ∙ held_by_other (holder_of m.state.gate.locks whats.Large) word (only.locks whats.Large))
+
+may_of : (s : Setting) (m : Configuration) (act : Act) → may_follow s m (by_zero act) ≡ true → may s m 0 act ≡ true
+may_of s m act h = (and_parts _ (may s m 0 act) h).1
+
+not_is : (b : Bool) → not b ≡ true → b ≡ false
+not_is true h = absurd (true≢false (sym h))
+not_is false h = refl
+
+-- acts of a call under way, behind its Begin
+pub unblocked : (s : Setting) (m : Configuration) (call : Call) (rest : List Act) (b : Busy) → IsOnly m → (m.now.calls 0).call ≡ Some call → is_lock_or_compact call ≡ false →
+    may_all_follow s m (map by_zero rest) ≡ true → list_all (λ act. not (is_begin act)) rest ≡ true → shape_of rest ≡ blocked b ∷ [] → ⊥
+unblocked s m call [] b only e p h n shape = let z : ⊥ = cc shape in z
+unblocked s m call (act ∷ rest) b only e p h n shape =
+    let q = and_parts (may_follow s m (by_zero act)) (may_all_follow s (after s m (by_zero act)) (map by_zero rest)) h in
+    let r = and_parts (not (is_begin act)) (list_all (λ x. not (is_begin x)) rest) n in
+    elim (cases_Bool (is_left_out act)) [
+      | inl out ↦
+          let goes : ((after s m (by_zero act)).now.calls 0).call ≡ Some call =
+          ap (λ (k : CallState). k.call) (updated_here m.now.calls 0 (call_after s 0 (m.now.calls 0) act)) ∙ (goes_on s 0 (m.now.calls 0) act (not_is (is_begin act) r.0) ∙ e) in
+          unblocked s (after s m (by_zero act)) call rest b (after_only s m only act) goes p q.1 r.1 (sym (ap (λ (x : Bool). cond x (shape_of rest) (act ∷ shape_of rest)) out) ∙ shape)
+      | inr out ↦
+          let there : act ∷ shape_of rest ≡ blocked b ∷ [] = sym (ap (λ (x : Bool). cond x (shape_of rest) (act ∷ shape_of rest)) out) ∙ shape in
+          let is : act ≡ blocked b = cc there in
+          not_blocked s m call b.what b.word only e p (ap (may s m 0) (sym is) ∙ may_of s m act q.0)
+    ]

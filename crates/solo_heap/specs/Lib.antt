@@ -1,4 +1,0 @@
-pub mod Blocks
-pub mod VsBlocks
-pub mod Layers
-pub mod Standing
