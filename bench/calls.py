@@ -13,6 +13,9 @@ The program is in bench/calls, with its proofs; it runs one loop of so many roun
 gives the time of a round. Runs go in turn over all loops, and the least of so many turns (5) counts for each. The clock is that of
 the processor, so other programs matter less; what they do to caches and to threads that meet at the gate they still do.
 
+A last row is a full subsegment that a search passes over, of one word of bits: one caller takes a block again that it gave back in the
+last of 20 or of 200 full subsegments, where the hint names the first.
+
 With --instructions it counts those of one caller by valgrind's callgrind, which no load changes.
 
 Where FOLDER is named the copy of the crates that is built stays there, with what their proofs kept; else it goes. Each crate that
@@ -29,6 +32,7 @@ HERE = os.path.dirname(os.path.dirname(os.path.abspath(__file__)))
 PROGRAM = 'call_bench'
 KINDS = ('bare', 'calls', 'bare-gate', 'gate')
 THREADS = (1, 2, 4)
+FULL = (20, 200)      # subsegments
 
 
 def line_of(name, lines):
@@ -97,37 +101,48 @@ def processor_seconds(words, rounds):
     return use.ru_utime + use.ru_stime
 
 
+def passed(cost):
+    """Of one full subsegment, where cost(n) is that of a round over n."""
+    few, many = FULL
+    return (cost(many) - cost(few)) / (many - few)
+
+
 def times(program, rounds, turns):
-    """Nanoseconds a round, by kind and number of threads."""
+    """Nanoseconds a round, by kind and number of threads, and those of a full subsegment."""
     runs = [(kind, threads, count) for kind in KINDS for threads in THREADS for count in (rounds, 2 * rounds)]
+    runs += [('pass', full, count) for full in FULL for count in (rounds // 20, rounds // 10)]
     least = dict.fromkeys(runs, math.inf)
     for _ in range(turns):
         for run in runs:
             kind, threads, count = run
             words = [program, kind, str(count), str(threads)]
-            least[run] = min(least[run], processor_seconds(words, count * threads))
-    return {(kind, threads): (least[kind, threads, 2 * rounds] - least[kind, threads, rounds]) / (rounds * threads) * 1e9 for kind in KINDS for threads in THREADS}
+            least[run] = min(least[run], processor_seconds(words, count if kind == 'pass' else count * threads))
+    told = {(kind, threads): (least[kind, threads, 2 * rounds] - least[kind, threads, rounds]) / (rounds * threads) * 1e9 for kind in KINDS for threads in THREADS}
+    few = rounds // 20
+    return told, passed(lambda full: (least['pass', full, rounds // 10] - least['pass', full, few]) / few * 1e9)
 
 
 def instructions(program):
-    """Instructions a round of one caller, by kind."""
-    def count(kind, rounds):
+    """Instructions a round of one caller, by kind, and those of a full subsegment."""
+    def count(kind, rounds, last=1):
         with tempfile.NamedTemporaryFile() as out:
-            words = ['valgrind', '--tool=callgrind', f'--callgrind-out-file={out.name}', program, kind, str(rounds), '1']
+            words = ['valgrind', '--tool=callgrind', f'--callgrind-out-file={out.name}', program, kind, str(rounds), str(last)]
             ran = subprocess.run(words, capture_output=True, text=True)
         return int(re.search(r'Collected\s*:\s*(\d+)', ran.stderr)[1])
-    return {kind: (count(kind, 20_000) - count(kind, 10_000)) / 10_000 for kind in KINDS}
+    told = {(kind, 1): (count(kind, 20_000) - count(kind, 10_000)) / 10_000 for kind in KINDS}
+    return told, passed(lambda full: (count('pass', 2_000, full) - count('pass', 1_000, full)) / 1_000)
 
 
 def row(label, bare, calls):
     print(f'{label:36}{bare:10.1f}{calls:10.1f}{calls / bare:8.2f}')
 
 
-def table(told, labels):
+def table(told, full, labels):
     for label, one in labels:
         row(f'{label}, a pair', told['bare', one], told['calls', one])
         row('  of it in and out of the gate', told['bare-gate', one], told['gate', one])
         row('  of it the front end', *(told[kind, one] - told[gate, one] for kind, gate in (('bare', 'bare-gate'), ('calls', 'gate'))))
+    print(f'{"a full subsegment in a pass":46}{full:10.1f}')
 
 
 def main():
@@ -147,9 +162,9 @@ def main():
     program = built(folder)
     print(f'{"instructions" if counts else "nanoseconds":36}{"bare":>10}{"calls":>10}{"ratio":>8}')
     if counts:
-        table({(kind, 1): told for kind, told in instructions(program).items()}, [('one caller', 1)])
+        table(*instructions(program), [('one caller', 1)])
     else:
-        table(times(program, rounds, turns), [('one caller', 1), ('two threads', 2), ('four threads', 4)])
+        table(*times(program, rounds, turns), [('one caller', 1), ('two threads', 2), ('four threads', 4)])
     if not words:
         shutil.rmtree(folder)
 
