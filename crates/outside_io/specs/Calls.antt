@@ -1,5 +1,6 @@
 -- The calls of a source or a sink in memory, some of which are to fail.
 use Rattle.std.specs.Prelude.{◌≡◌, ℕ, ◌+◌, ◌-◌, ◌^◌, min, List, Contains}
+use Rattle.std.specs.List.Sorted.{IsPermutation}
 
 -- How many calls were made so far, the numbers of the calls that fail (the first call has number 0), and how many failed so far.
 -- The numbers that fail are below 2 ^ 32, so a count of calls that stands still at its last value names no call that fails.
@@ -8,9 +9,11 @@ pub record Calls : Type 0 where
   pub failing : List ℕ
   pub faults : ℕ
 
--- no call was made yet
-abbrev pub no_calls : List ℕ → Calls
-no_calls numbers = record { made = 0; failing = numbers; faults = 0 }
+-- No call was made yet, and those that fail are the calls with these numbers.
+pub record BeginsWith (numbers : List ℕ) (calls : Calls) : Type 0 where
+  pub made : calls.made ≡ 0
+  pub faults : calls.faults ≡ 0
+  pub failing : IsPermutation numbers calls.failing
 
 -- The next call fails: its number stands among those that fail.
 abbrev pub FailsNext : Calls → Type 0

@@ -1,6 +1,7 @@
 // The calls of a source or a sink in memory, some of which are to fail.
-ghost use Rattle.std.specs.Prelude.{◌≡◌, ◌↔◌, ◌≤◌, ◌<◌, ◌^◌, ℕ, IsTrue, IfOk, Contains};
-ghost use Rattle.outside_io.specs.Calls.{Calls, FailsNext, OneMore, no_calls};
+ghost use Rattle.std.specs.Prelude.{◌↔◌, ◌≤◌, ◌<◌, ◌^◌, IsTrue, IfOk, Contains};
+ghost use Rattle.std.specs.List.Sorted.{IsNonDecreasing};
+ghost use Rattle.outside_io.specs.Calls.{Calls, FailsNext, OneMore, BeginsWith};
 
 use std::alloc::{AllocError, Global};
 use std::marker::Model;
@@ -8,6 +9,7 @@ use std::marker::Model;
 /// Counts calls, numbered from 0, and the faults among them.
 #[derive(Drop)]
 pub struct CallCount {
+    /// The numbers of the calls that fail, in rising order.
     failing: Vec<u32>,
     made: u64,
     faults: u64,
@@ -18,15 +20,17 @@ impl Model for CallCount {
 
     ghost view = { λ c. record { made = c.made; failing = c.failing.items; faults = c.faults } };
 
-    ghost invariant = { λ c. c.faults ≤ c.made };
+    ghost invariant = { λ c. (c.faults ≤ c.made) × IsNonDecreasing c.failing.items };
 }
 
 impl CallCount {
     pub fn new(alloc: Global, fails: &[u32]) -> Result<CallCount, AllocError>
-        ensures { IfOk result (λ calls. calls ≡ no_calls fails.now) }
+        ensures { IfOk result (BeginsWith fails.now) }
     {
+        let mut failing = fails.to_vec(alloc)?;
+        failing.sort_unstable();
         Ok(CallCount {
-            failing: fails.to_vec(alloc)?,
+            failing,
             made: 0,
             faults: 0,
         })
@@ -47,8 +51,12 @@ impl CallCount {
 }
 
 fn stands_in(numbers: &[u32], number: u64) -> bool
+    requires { IsNonDecreasing numbers.now }
     ensures found { IsTrue result ↔ Contains numbers.now number }
     ensures small { IsTrue result → number < 2 ^ 32 }
 {
-    numbers.iter().any(|&n| u64::from(n) == number)
+    match u32::try_from(number) {
+        Ok(number) => numbers.binary_search(&number).is_ok(),
+        Err(_) => false,
+    }
 }

@@ -1,8 +1,8 @@
 // Bytes in memory, that are given and taken in pieces, with faults where they are wanted.
-ghost use Rattle.std.specs.Prelude.{◌≡◌, ◌↔◌, ℕ, ◌≤◌, ◌<◌, [], true, false, min, drop, length, List, IfOk, IfErr, OnOk, OnErr, IsOk, IsErr, IsErrOf};
+ghost use Rattle.std.specs.Prelude.{◌≡◌, ◌↔◌, ◌≤◌, ◌<◌, [], true, min, length, IfOk, IfErr, OnOk, OnErr, IsErr, IsErrOf};
 ghost use Rattle.std.specs.Io.KnownBytes.{ReadConsumes, WriteAppends, Keeps};
 ghost use Rattle.outside_io.specs.Faults.{Rose, Stands, CountsFaults, TakesSome, Unfinishes};
-ghost use Rattle.outside_io.specs.Calls.{FailsNext, OneMore, no_calls};
+ghost use Rattle.outside_io.specs.Calls.{FailsNext, OneMore, BeginsWith};
 ghost use Rattle.outside_io.specs.InMemory.{SourceState, SinkState};
 
 use crate::calls::CallCount;
@@ -39,7 +39,7 @@ impl BytesSource {
         requires { 0 < most }
         ensures left { IfOk result (λ source. source.left ≡ bytes.now) }
         ensures most { IfOk result (λ source. source.most ≡ most) }
-        ensures calls { IfOk result (λ source. source.calls ≡ no_calls fails.now) }
+        ensures calls { IfOk result (λ source. BeginsWith fails.now source.calls) }
         ensures faults { IfOk result (λ source. ⟦<BytesSource as Source>⟧.faults source ≡ 0) }
     {
         Ok(BytesSource {
@@ -103,7 +103,7 @@ impl BytesSink {
         ensures held { IfOk result (λ sink. sink.held ≡ []) }
         ensures finished { IfOk result (λ sink. sink.finished ≡ true) }
         ensures most { IfOk result (λ sink. sink.most ≡ most) }
-        ensures calls { IfOk result (λ sink. sink.calls ≡ no_calls fails.now) }
+        ensures calls { IfOk result (λ sink. BeginsWith fails.now sink.calls) }
         ensures faults { IfOk result (λ sink. ⟦<BytesSink as Sink>⟧.faults sink ≡ 0) }
     {
         Ok(BytesSink {

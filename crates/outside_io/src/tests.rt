@@ -30,7 +30,7 @@ fn whole_texts(rt: HostRuntime) -> Result<(), Fail> {
 
 #[test]
 fn second_read_fails(rt: HostRuntime) -> Result<(), Fail> {
-    let mut source = BytesSource::new(rt.alloc(), b"hello", 2, &[1, 7])?;
+    let mut source = BytesSource::new(rt.alloc(), b"hello", 2, &[7, 1, 1])?;
     let read = read_whole(rt.alloc(), &mut source, 100);
     assert!(rt; matches!(read, Err(ReadNo::Failed)));
     let rest = read_whole(rt.alloc(), &mut source, 100)?;
