@@ -1,8 +1,7 @@
 -- A new block of the back end in hand, for one that moves.
 use Rattle.std.proofs.Common.{◌≡◌, ◌⊎◌, ℕ, ◌+◌, ◌*◌, ◌-◌, ◌/◌, ◌<◌, ◌≤◌, Bool, true, false, not, ◌||◌, List, [], ◌∷◌, length, Option, Some, None, refl, sym, ap, ◌∙◌, subst, arith, ltb, inl, inr}
 use Rattle.std.specs.Prelude.{cond, filter}
-use Rattle.std.specs.List.{find}
-use Rattle.std.proofs.lemmas.Bool.{cases_Bool, and_parts, and_from, or_left, lt-ltb, le-ltb, lt-leb, le-leb}
+use Rattle.std.proofs.lemmas.Bool.{cases_Bool, and_parts, and_from, lt-ltb, le-ltb, lt-leb, le-leb}
 use Rattle.heap_model.specs.declared.Act.{Act}
 use Rattle.heap_model.specs.declared.Act.TheVariants as acts
 use Rattle.heap_model.specs.declared.Call.{Call}
@@ -51,13 +50,13 @@ use Rattle.call_parts.proofs.Handing.{new_place}
 use Rattle.call_parts.proofs.Serving.{within, none_begins}
 use Rattle.call_parts.proofs.Tokens.{now_all, prepares, one_prepared, added_all, setting_before_all}
 use Rattle.paged_calls.specs.Blocks.{block_run}
-use Rattle.move_parts.specs.Moves.{IsHeld, IsMoving, IsHalfway, with_given, TellsBack}
-use Rattle.move_parts.specs.Places.{HasMade, HasHeldBack, IsWithout}
+use Rattle.move_parts.specs.Moves.{IsMovingAny, IsHalfwayAny, with_given, TellsBack}
+use Rattle.move_parts.specs.Places.{HasHeldBack, IsWithout}
 use Rattle.move_parts.proofs.BackReserved.{back_leaves_still}
 use Rattle.move_parts.proofs.Ended.{vs_stands, vs_used, large_stands}
-use Rattle.move_parts.proofs.Holding.{half, given_front}
+use Rattle.move_parts.proofs.Holding.{IsMadePlainly, half_any, given_front}
+use Rattle.move_parts.proofs.Movers.{IsMine, IsMover, mover, holds_mine, mine_area}
 use Rattle.move_parts.proofs.Put.{IsPut}
-use Rattle.move_parts.proofs.Reserved.{held_area, holds_by}
 
 pub paged_route : (n : ℕ) → 131073 ≤ n → n ≤ 520192 → is_paged (route_of n) ≡ true
 paged_route n l h =
@@ -73,7 +72,7 @@ pub record BlockLeads (s : Setting) (m : Configuration) (c : ℕ) (rest : List A
   pub may : are_prepared s m c (by_all c rest) ≡ true
   pub state : (configuration_after s m (by_all c rest)).state ≡ with_back_block m.state (with_segment m.state.back.area first) c first n
 
-module _ (s : Setting) (c addr size n first : ℕ) (flags : Flags) (p : Place) (may_move : flags.in_place ≡ false) where
+module _ (s : Setting) (c addr n first : ℕ) (flags : Flags) (p : Place) (may_move : flags.in_place ≡ false) where
   abbrev call : Call
   call = calls.Realloc addr n flags
 
@@ -84,22 +83,22 @@ module _ (s : Setting) (c addr size n first : ℕ) (flags : Flags) (p : Place) (
   place = acts.Place (4096 * first) (256 * pages_of n) layers.Back
 
   -- the call has the size to place
-  sized : (m : Configuration) → IsHeld m c addr p size → (m.now.calls c).call ≡ Some call → (m.now.calls c).placed ≡ false → lets_stay s.limits m.state p n ≡ false → (request_of s m c).size ≡ Some n
+  sized : (m : Configuration) → IsMine m c addr p → (m.now.calls c).call ≡ Some call → (m.now.calls c).placed ≡ false → lets_stay s.limits m.state p n ≡ false → (request_of s m c).size ≡ Some n
   sized m old k placed leaves =
       reallocation_places s m c addr n flags p k placed may_move (held_found m old)
-      (and_from (is_live p.status || is_in_hand_of c p.status) (not (lets_stay s.limits m.state p n)) (or_left (is_live p.status) (is_in_hand_of c p.status) (ap is_live old.live)) (ap not leaves))
+      (and_from (is_live p.status || is_in_hand_of c p.status) (not (lets_stay s.limits m.state p n)) old.there (ap not leaves))
     where
-      held_found : (m : Configuration) → IsHeld m c addr p size → place_at m.state c addr ≡ Some p
+      held_found : (m : Configuration) → IsMine m c addr p → place_at m.state c addr ≡ Some p
       held_found m old = find_front (has_address addr) (exclusive_places m.state c) (all_places m.state) p old.first
 
-  two_prepared : (m : Configuration) → IsHeld m c addr p size → (m.now.calls c).call ≡ Some call → may_all_follow s m (by_all c (back_acts first n)) ≡ true → are_prepared s m c (by_all c (back_acts first n)) ≡ true
+  two_prepared : (m : Configuration) → IsMine m c addr p → (m.now.calls c).call ≡ Some call → may_all_follow s m (by_all c (back_acts first n)) ≡ true → are_prepared s m c (by_all c (back_acts first n)) ≡ true
   two_prepared m old k h =
       let x = and_parts (may_follow s m (entry c span)) _ h in
       let y = and_parts (may_follow s (after s m (entry c span)) (entry c place)) true x.1 in
-      one_prepared s m c span (by_all c (place ∷ [])) (prepares s m c span (holds_by m c addr size n flags p k old) refl x.0)
+      one_prepared s m c span (by_all c (place ∷ [])) (prepares s m c span (holds_mine m c addr n flags p k old) refl x.0)
       (one_prepared s (after s m (entry c span)) c place [] (prepares s (after s m (entry c span)) c place refl refl y.0) refl)
 
-  module _ (m : Configuration) (old : IsHeld m c addr p size) (w : IsWithin m c call) (back : (caller_view m c).back ≡ true) (placed : (m.now.calls c).placed ≡ false) (paged : is_paged (route_of n) ≡ true) (leaves : lets_stay s.limits m.state p n ≡ false)
+  module _ (m : Configuration) (old : IsMine m c addr p) (w : IsWithin m c call) (back : (caller_view m c).back ≡ true) (placed : (m.now.calls c).placed ≡ false) (paged : is_paged (route_of n) ≡ true) (leaves : lets_stay s.limits m.state p n ≡ false)
       (still : lets_stay s.limits (after s m (entry c (acts.Reserve m.state.back.area.reserved))).state p n ≡ false) where
     low_leads : back_place m.state.back.area s.limits.segments (pages_of n) ≡ Some first → first / 256 < m.state.back.area.reserved → BlockLeads s m c (back_acts first n) first n
     low_leads fits low =
@@ -117,7 +116,7 @@ module _ (s : Setting) (c addr size n first : ℕ) (flags : Flags) (p : Place) (
         let m0 = after s m (entry c reserve) in
         let call0 = call_behind s m c call reserve refl w.call_is in
         let placed0 : (m0.now.calls c).placed ≡ false = ap (λ (k : CallState). k.placed) (updated_here m.now.calls c (call_after s c (m.now.calls c) reserve)) ∙ placed in
-        let old0 = held_area m m0 m0.state.back.area refl c addr size p old in
+        let old0 = mine_area m m0 m0.state.back.area refl c addr p old in
         let l = reserving_back s m c call n first w back (sized m0 old0 call0 placed0 still) g.less paged g.place g.there g.short in
         let x = and_parts (may_follow s m (entry c reserve)) _ l.may in
         record {
@@ -156,12 +155,15 @@ block_whole c reserved first n = elim (cases_Bool (ltb (first / 256) reserved)) 
 block_pending : (c : Token) (reserved first n : ℕ) → c.pending ≡ false → (with_all c (block_acts reserved first n)).pending ≡ false
 block_pending c reserved first n h = elim (cases_Bool (ltb (first / 256) reserved)) [ inl e ↦ rw e h | inr e ↦ rw e h ]
 
-module _ (c : Token) (addr size n : ℕ) (flags : Flags) (p : Place) (out : List ℕ) (v : IsMoving c addr size n flags p out) (st : IsStanding c) (held : is_out whats.Back out ≡ true) (back : Kept) (w : TellsBack c back) (sound : IsSound back) (paged : is_paged (route_of n) ≡ true) where
+module _ (c : Token) (taken : Bool) (addr size n : ℕ) (flags : Flags) (p : Place) (out : List ℕ) (v : IsMovingAny taken c addr size n flags p out) (st : IsStanding c) (held : is_out whats.Back out ≡ true) (back : Kept) (w : TellsBack c back) (sound : IsSound back) (paged : is_paged (route_of n) ≡ true) where
+  abbrev mine : IsMover c addr n flags p out
+  mine = mover taken c addr size n flags p out v
+
   within_now : Always c (λ s. IsWithin (now s c) c.number (calls.Realloc addr n flags))
-  within_now = within c (calls.Realloc addr n flags) st v.serving.inside v.serving.call_is v.serving.whole
+  within_now = within c (calls.Realloc addr n flags) st mine.inside mine.call_is mine.whole
 
   held_now : Always c (λ s. (caller_view (now s c) c.number).back ≡ true)
-  held_now s x = (st s x).locks whats.Back ∙ (ap (is_out whats.Back) v.serving.out_is ∙ held)
+  held_now s x = (st s x).locks whats.Back ∙ (ap (is_out whats.Back) mine.out_is ∙ held)
 
   area_now : Always c (λ s. area_of back ≡ (now s c).state.back.area)
   area_now s x = ap (λ (b : BackPart). b.area) (w s x).part
@@ -174,12 +176,11 @@ module _ (c : Token) (addr size n : ℕ) (flags : Flags) (p : Place) (out : List
   still_now s x = by p.layer refl
     where
       by : (l : Layer) → p.layer ≡ l → lets_stay s.limits (after s (now s c) (entry c.number (acts.Reserve (now s c).state.back.area.reserved))).state p n ≡ false
-      by layers.Lfh e = (let h = v.leaves s x in let g = rw e at h in rw e g)
-      by layers.Vs e = (let h = v.leaves s x in let g = rw e at h in rw e g)
-      by layers.Large e = (let h = v.leaves s x in let g = rw e at h in rw e g)
+      by layers.Lfh e = (let h = mine.leaves s x in let g = rw e at h in rw e g)
+      by layers.Vs e = (let h = mine.leaves s x in let g = rw e at h in rw e g)
+      by layers.Large e = (let h = mine.leaves s x in let g = rw e at h in rw e g)
       by layers.Back e =
-          let there : find (has_address addr) (now s c).state.back.places ≡ Some p = subst (λ (l : Layer). find (has_address addr) (places_of (now s c).state l) ≡ Some p) e (v.old s x).there in
-          back_leaves_still c.opening (now s c).state back (w s x) sound addr p there s (now s c) c.number (now s c).state.back.area.reserved n refl refl e (v.leaves s x)
+          back_leaves_still c.opening (now s c).state back (w s x) sound addr p (mine.of_back e s x) s (now s c) c.number (now s c).state.back.area.reserved n refl refl e (mine.leaves s x)
 
   module _ (first : ℕ) (fits : Some first ≡ back_place (area_of back) back.limits.segments (pages_of n)) where
     abbrev pub list : List Act
@@ -192,7 +193,7 @@ module _ (c : Token) (addr size n : ℕ) (flags : Flags) (p : Place) (out : List
         let somewhere = goes_somewhere c.opening m.state back (w s x) sound (pages_of n) first (subst (λ (l : Limits). back_place m.state.back.area l.segments (pages_of n) ≡ Some first) x.limits goes) in
         let somewhere' = subst (λ (l : Limits). (first / 256 < m.state.back.area.reserved) ⊎ GoesBehind m.state.back.area l.segments (pages_of n) first) (sym x.limits) somewhere in
         subst (λ (r : ℕ). BlockLeads s m c.number (block_acts r first n) first n) (sym (ap (λ (a : Area). a.reserved) (area_now s x)))
-        (block_leads s c.number addr size n first flags p v.may_move m (v.old s x) (within_now s x) (held_now s x) (v.serving.is_new s x).placed paged (v.leaves s x) (still_now s x) goes somewhere')
+        (block_leads s c.number addr n first flags p mine.may_move m (mine.old s x) (within_now s x) (held_now s x) (mine.placed s x) paged (mine.leaves s x) (still_now s x) goes somewhere')
 
     pub block_may : Always c (λ s. are_prepared s (now s c) c.number (by_all c.number list) ≡ true)
     block_may s x = (leads_now s x).may
@@ -216,10 +217,10 @@ module _ (c : Token) (addr size n : ℕ) (flags : Flags) (p : Place) (out : List
         by layers.Large = refl
 
     module _ (valid : AreValid c.opening.limits) (legal : IsLegalWith c.opening c.roll c.seen) (to : 4096 * first / 8 + words_of n ≤ data_count c.opening.limits) where
-      block_half : IsHalfway t (calls.Realloc addr n flags) addr size p (4096 * first) n q out
+      block_half : IsHalfwayAny taken t (calls.Realloc addr n flags) addr size p (4096 * first) n q out
       block_half =
-          half c addr size n flags p out v st valid legal list (block_no_begin back.region.reserved first n) layers.Back (4096 * first) (256 * pages_of n) (block_whole c back.region.reserved first n) (block_few back.region.reserved first n)
-          (block_pending c back.region.reserved first n v.serving.pending) block_may put_now refl (gives n paged) held_now to
+          half_any taken c addr size n flags p out v st valid legal list (block_no_begin back.region.reserved first n) layers.Back (4096 * first) (256 * pages_of n) (block_whole c back.region.reserved first n) (block_few back.region.reserved first n)
+          (block_pending c back.region.reserved first n mine.pending) block_may put_now refl (gives n paged) held_now to
 
       block_added : HasAdded c t list
       block_added = added_all c list (block_no_begin back.region.reserved first n)
@@ -233,38 +234,44 @@ module _ (c : Token) (addr size n : ℕ) (flags : Flags) (p : Place) (out : List
       abbrev reserve_it : Act
       reserve_it = acts.Reserve back.region.reserved
 
-      block_made : HasMade c t p n q
+      block_made : IsMadePlainly c t p n q
       block_made = by (ltb (first / 256) back.region.reserved) refl
         where
-          by : (f : Bool) → ltb (first / 256) back.region.reserved ≡ f → HasMade c t p n q
+          by : (f : Bool) → ltb (first / 256) back.region.reserved ≡ f → IsMadePlainly c t p n q
           by true e =
               let is : list ≡ span_it ∷ place_it ∷ [] = rw e refl in
               record {
-                reserves = [];
-                begins = span_it;
-                more = place_it ∷ [];
-                added = subst (HasAdded c t) is block_added;
-                begins_it = refl;
-                no_begin = refl;
-                shape_is = refl;
-                reserves_are = inl refl;
+                made = record {
+                  reserves = [];
+                  begins = span_it;
+                  more = place_it ∷ [];
+                  added = subst (HasAdded c t) is block_added;
+                  begins_it = refl;
+                  no_begin = refl;
+                  shape_is = refl;
+                  reserves_are = inl refl;
+                };
+                plain = refl;
               }
           by false e =
               let is : list ≡ reserve_it ∷ span_it ∷ place_it ∷ [] = rw e refl in
               record {
-                reserves = reserve_it ∷ [];
-                begins = span_it;
-                more = place_it ∷ [];
-                added = subst (HasAdded c t) is block_added;
-                begins_it = refl;
-                no_begin = refl;
-                shape_is = refl;
-                reserves_are = inr (
-                  back.region.reserved,
-                  refl,
-                  λ s x.
-                      subst (λ (g : ℕ). lets_stay s.limits (after s (now s c) (entry c.number (acts.Reserve g))).state p n ≡ false) (sym (ap (λ (a : Area). a.reserved) (area_now s x))) (still_now s x),
-                );
+                made = record {
+                  reserves = reserve_it ∷ [];
+                  begins = span_it;
+                  more = place_it ∷ [];
+                  added = subst (HasAdded c t) is block_added;
+                  begins_it = refl;
+                  no_begin = refl;
+                  shape_is = refl;
+                  reserves_are = inr (
+                    back.region.reserved,
+                    refl,
+                    λ s x.
+                        subst (λ (g : ℕ). lets_stay s.limits (after s (now s c) (entry c.number (acts.Reserve g))).state p n ≡ false) (sym (ap (λ (a : Area). a.reserved) (area_now s x))) (still_now s x),
+                  );
+                };
+                plain = refl;
               }
 
       before : (s : Setting) → IsSettingOf t.opening t.roll s → IsSettingOf c.opening c.roll s
@@ -294,10 +301,10 @@ module _ (c : Token) (addr size n : ℕ) (flags : Flags) (p : Place) (out : List
       spans_then : (s : Setting) → IsSettingOf c.opening c.roll s → vs_spans (k s).back.area ≡ vs_spans (now s c).state.back.area
       spans_then s x = ap (λ (y : State). vs_spans y.back.area) (state_now s x) ∙ other_inserted (block_span first n) (now s c).state.back.area.spans refl
 
-      pub block_held : (d : Token) → d ≡ t → (more : Kept) → Becomes back more (λ b. part_with b (block_run first n)) → HasHeldBack c d addr size n flags p out (4096 * first) more
-      block_held d e more becomes = subst (λ (y : Token). HasHeldBack c y addr size n flags p out (4096 * first) more) (sym e) (record {
+      pub block_held : (d : Token) → d ≡ t → (more : Kept) → Becomes back more (λ b. part_with b (block_run first n)) → HasHeldBack taken c d addr size n flags p out (4096 * first) more
+      block_held d e more becomes = subst (λ (y : Token). HasHeldBack taken c y addr size n flags p out (4096 * first) more) (sym e) (record {
         place = q;
-        held = record { half = block_half; made = block_made };
+        held = record { half = block_half; made = block_made.made; plain = block_made.plain };
         back = λ s x.
             let y = before s x in
             subst (λ (o : Opening). StandsForBack o (k s) (backs.layer_of more)) (sym block_added.goes.opening) (becomes c.opening (now s c).state (k s) (w s y) (given_back s y));
@@ -314,7 +321,7 @@ module _ (c : Token) (addr size n : ℕ) (flags : Flags) (p : Place) (out : List
   pub block_without : None ≡ back_place (area_of back) back.limits.segments (pages_of n) → (d : Token) → d ≡ c → IsWithout c d n
   block_without fits d e = record {
     same = e;
-    may = λ s x. prepares s (now s c) c.number (acts.NoFit n) (holds_by (now s c) c.number addr size n flags p (within_now s x).call_is (v.old s x)) refl
+    may = λ s x. prepares s (now s c) c.number (acts.NoFit n) (holds_mine (now s c) c.number addr n flags p (within_now s x).call_is (mine.old s x)) refl
         (refusing_back s (now s c) c.number (calls.Realloc addr n flags) n (within_now s x) (held_now s x) refl paged (place_now None fits s x)).may;
   }
 

@@ -48,7 +48,7 @@ pub record IsRun (back : Kept) (addr : ℕ) (p : Place) : Type 0 where
   pub found : find (is_block_at addr) (spans_of back) ≡ Some run
   pub is : place_of run ≡ p
 
-run_of : (back : Kept) (addr : ℕ) (p : Place) (o : Option Run) → find (is_block_at addr) (spans_of back) ≡ o → option_map place_of o ≡ Some p → IsRun back addr p
+pub run_of : (back : Kept) (addr : ℕ) (p : Place) (o : Option Run) → find (is_block_at addr) (spans_of back) ≡ o → option_map place_of o ≡ Some p → IsRun back addr p
 run_of back addr p (Some r) f e = record { run = r; found = f; is = (let same : place_of r ≡ p = cc in same) }
 run_of back addr p None f e = absurd (let no : ⊥ = cc in no)
 

@@ -138,7 +138,7 @@ module _ (c d : Token) (call : Call) (addr size b n : ℕ) (p q : Place) (out : 
     }
 
 -- where the first place of an address is live, it is the first live one
-live_found : (a : ℕ) (ps : List Place) (p : Place) → find (has_address a) ps ≡ Some p → is_live p.status ≡ true → find (is_live_at a) ps ≡ Some p
+pub live_found : (a : ℕ) (ps : List Place) (p : Place) → find (has_address a) ps ≡ Some p → is_live p.status ≡ true → find (is_live_at a) ps ≡ Some p
 live_found a [] p f l = absurd (let no : ⊥ = cc in no)
 live_found a (y ∷ ys) p f l = elim (cases_Bool (has_address a y)) [
   | inl k ↦
@@ -148,7 +148,7 @@ live_found a (y ∷ ys) p f l = elim (cases_Bool (has_address a y)) [
   | inr k ↦ rw k (live_found a ys p (rw k at f) l)
 ]
 
-some_mapped : (o : Option LargeBlock) (size : ℕ) → option_map (λ b. b.size) o ≡ Some size → IsSome o
+pub some_mapped : (o : Option LargeBlock) (size : ℕ) → option_map (λ b. b.size) o ≡ Some size → IsSome o
 some_mapped (Some b) size e = refl
 some_mapped None size e = absurd (let no : ⊥ = cc in no)
 

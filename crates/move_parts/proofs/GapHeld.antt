@@ -1,7 +1,6 @@
 -- A new block of VS in hand in a gap, for one that moves.
-use Rattle.std.proofs.Common.{◌≡◌, ℕ, ◌+◌, ◌*◌, ◌/◌, ◌≤◌, true, List, [], ◌∷◌, Option, Some, None, refl, sym, ap, ◌∙◌, subst, arith, inl}
+use Rattle.std.proofs.Common.{◌≡◌, ℕ, ◌+◌, ◌*◌, ◌/◌, ◌≤◌, Bool, true, List, [], ◌∷◌, Some, None, refl, sym, ap, ◌∙◌, subst, arith, inl}
 use Rattle.std.specs.Prelude.{cond}
-use Rattle.std.proofs.lemmas.Bool.{or_right}
 use Rattle.heap_model.specs.declared.Act.{Act}
 use Rattle.heap_model.specs.declared.Act.TheVariants as acts
 use Rattle.heap_model.specs.declared.Call.{Call}
@@ -10,7 +9,7 @@ use Rattle.heap_model.specs.declared.Flags.{Flags}
 use Rattle.heap_model.specs.declared.Layer.{Layer}
 use Rattle.heap_model.specs.declared.Layer.TheVariants as layers
 use Rattle.heap_model.specs.declared.What.TheVariants as whats
-use Rattle.heap_model.specs.Agreement.{holds_old_block, moves_exclusive}
+use Rattle.heap_model.specs.Agreement.{holds_old_block}
 use Rattle.heap_model.specs.Backend.{back_place}
 use Rattle.heap_model.specs.CallState.{Configuration}
 use Rattle.heap_model.specs.Geometry.{units_of, span_pages_of, words_of}
@@ -18,7 +17,6 @@ use Rattle.heap_model.specs.Limits.{AreValid}
 use Rattle.heap_model.specs.Ranges.{gaps, vs_place, vs_spans}
 use Rattle.heap_model.specs.Runs.{Run}
 use Rattle.heap_model.specs.State.{State, BackPart, Place, is_layer, places_of, holds}
-use Rattle.heap_model.specs.Stay.{for_some}
 use Rattle.claim_rule.specs.Entries.{IsLegalWith, setting_of, may_prepare}
 use Rattle.claim_rule.specs.Places.{data_count}
 use Rattle.claim_rule.proofs.Advance.{some_setting}
@@ -38,28 +36,29 @@ use Rattle.vs_calls.specs.Blocks.{IsForVs}
 use Rattle.vs_calls.specs.Blocks as vs
 use Rattle.vs_calls.proofs.Asked.{vs_route}
 use Rattle.vs_calls.proofs.InHand.{with_hand, suits_run, used_more}
-use Rattle.move_parts.specs.Moves.{IsMoving, IsHalfway, with_given, WillTellVs, TellsVs, TellsBack}
-use Rattle.move_parts.specs.Places.{HasMade, HasHeldVs, IsWithout}
+use Rattle.move_parts.specs.Moves.{IsMovingAny, IsHalfwayAny, with_given, WillTellVs, TellsVs, TellsBack}
+use Rattle.move_parts.specs.Places.{HasHeldVs, IsWithout}
 use Rattle.move_parts.proofs.Ended.{back_stands, large_stands}
-use Rattle.move_parts.proofs.Held.{held_exclusive}
-use Rattle.move_parts.proofs.Holding.{half, given_front}
+use Rattle.move_parts.proofs.Holding.{IsMadePlainly, half_any, given_front}
+use Rattle.move_parts.proofs.Movers.{IsMover, mover, holds_mine}
 use Rattle.move_parts.proofs.Put.{IsPut}
 
-module _ (c : Token) (addr size n : ℕ) (flags : Flags) (p : Place) (out : List ℕ) (v : IsMoving c addr size n flags p out) (st : IsStanding c) (held : is_out whats.Vs out ≡ true) (kept : VsKept) (w : TellsVs c kept) (small : n ≤ 131072) (bucket : IsForVs c n) where
+module _ (c : Token) (taken : Bool) (addr size n : ℕ) (flags : Flags) (p : Place) (out : List ℕ) (v : IsMovingAny taken c addr size n flags p out) (st : IsStanding c) (held : is_out whats.Vs out ≡ true) (kept : VsKept) (w : TellsVs c kept) (small : n ≤ 131072) (bucket : IsForVs c n) where
   abbrev call : Call
   call = calls.Realloc addr n flags
 
+  abbrev mine : IsMover c addr n flags p out
+  mine = mover taken c addr size n flags p out v
+
   pub within_now : Always c (λ s. IsWithin (now s c) c.number call)
-  within_now = within c call st v.serving.inside v.serving.call_is v.serving.whole
+  within_now = within c call st mine.inside mine.call_is mine.whole
 
   pub held_now : Always c (λ s. holds (now s c).state.gate c.number whats.Vs ≡ true)
-  held_now s x = (st s x).locks whats.Vs ∙ (ap (is_out whats.Vs) v.serving.out_is ∙ held)
+  held_now s x = (st s x).locks whats.Vs ∙ (ap (is_out whats.Vs) mine.out_is ∙ held)
 
   -- what it places the caller alone decides
   pub holds_old : Always c (λ s. holds_old_block (now s c) c.number ≡ true)
-  holds_old s x =
-      or_right ((now s c).now.calls c.number).placed (for_some ((now s c).now.calls c.number).call (moves_exclusive (now s c) c.number))
-      (ap (λ (o : Option Call). for_some o (moves_exclusive (now s c) c.number)) (within_now s x).call_is ∙ held_exclusive (now s c) c.number addr size p (v.old s x))
+  holds_old s x = holds_mine (now s c) c.number addr n flags p (within_now s x).call_is (mine.old s x)
 
   fits_now : (run : Run) → place_for kept n ≡ Some run → Always c (λ s. vs_place (gaps (now s c).state) (units_of n) ≡ Some run)
   fits_now run fits s x = sym (place_is c.opening (now s c).state kept (w.tells s x) n) ∙ fits
@@ -93,21 +92,24 @@ module _ (c : Token) (addr size n : ℕ) (flags : Flags) (p : Place) (out : List
         by layers.Large = refl
 
     module _ (valid : AreValid c.opening.limits) (legal : IsLegalWith c.opening c.roll c.seen) (later : VsKept) (b : ℕ) (t : Token) (h : vs.HasHeld c t kept later n b) (same_run : h.run ≡ run) (to : (16 * run.first + 16) / 8 + words_of n ≤ data_count c.opening.limits) where
-      gap_half : IsHalfway gap_token call addr size p (16 * run.first + 16) n q out
+      gap_half : IsHalfwayAny taken gap_token call addr size p (16 * run.first + 16) n q out
       gap_half =
-          half c addr size n flags p out v st valid legal (place ∷ []) refl layers.Vs (16 * run.first) run.count refl (omega arith) v.serving.pending
+          half_any taken c addr size n flags p out v st valid legal (place ∷ []) refl layers.Vs (16 * run.first) run.count refl (omega arith) mine.pending
           (λ s x. one_prepared s (now s c) c.number place [] (gap_may s x) refl) put_now refl (suits_run n c.number run small (count_is (gaps_in kept) (units_of n) run fits)) held_now to
 
-      gap_made : HasMade c gap_token p n q
+      gap_made : IsMadePlainly c gap_token p n q
       gap_made = record {
-        reserves = [];
-        begins = place;
-        more = [];
-        added = added_one c place refl;
-        begins_it = refl;
-        no_begin = refl;
-        shape_is = refl;
-        reserves_are = inl refl;
+        made = record {
+          reserves = [];
+          begins = place;
+          more = [];
+          added = added_one c place refl;
+          begins_it = refl;
+          no_begin = refl;
+          shape_is = refl;
+          reserves_are = inl refl;
+        };
+        plain = refl;
       }
 
       given_vs : Always gap_token (λ s. (with_given (now s gap_token).state c.number q n).vs ≡ with_block (now s c).state.vs run n)
@@ -124,13 +126,13 @@ module _ (c : Token) (addr size n : ℕ) (flags : Flags) (p : Place) (out : List
         h.becomes c.opening (now s c).state (with_given (now s gap_token).state c.number q n) (w.tells s x) (given_vs s x ∙ (λ i. with_block (now s c).state.vs (sym same_run i) n)) (given_spans s x),
       )
 
-      pub gap_held : HasHeldVs c t addr size n flags p out b later
+      pub gap_held : HasHeldVs taken c t addr size n flags p out b later
       gap_held =
           let e : t ≡ gap_token = h.prepared ∙ (λ i. with_prepared c (acts.Place (16 * (same_run i).first) (same_run i).count layers.Vs)) in
           let at : b ≡ 16 * run.first + 16 = h.at ∙ (λ i. 16 * (same_run i).first + 16) in
-          subst (λ (y : Token). HasHeldVs c y addr size n flags p out b later) (sym e) (subst (λ (a : ℕ). HasHeldVs c gap_token addr size n flags p out a later) (sym at) (record {
+          subst (λ (y : Token). HasHeldVs taken c y addr size n flags p out b later) (sym e) (subst (λ (a : ℕ). HasHeldVs taken c gap_token addr size n flags p out a later) (sym at) (record {
             place = q;
-            held = record { half = gap_half; made = gap_made };
+            held = record { half = gap_half; made = gap_made.made; plain = gap_made.plain };
             vs = tells_then;
             back = λ back f s x. back_stands c.opening (now s c).state (with_given (now s gap_token).state c.number q n) back (f s x) (ap (λ (y : State). y.back) (state_now s x));
             large = λ large f s x. large_stands c.opening (now s c).state (with_given (now s gap_token).state c.number q n) large (f s x) (ap (λ (y : State). y.large) (state_now s x));
@@ -148,7 +150,7 @@ module _ (c : Token) (addr size n : ℕ) (flags : Flags) (p : Place) (out : List
         let area : area_of back ≡ (now s c).state.back.area = ap (λ (y : BackPart). y.area) (wb s x).part in
         let l : back.limits ≡ s.limits = (wb s x).limits ∙ sym x.limits in
         prepares s (now s c) c.number (acts.NoFit n) (holds_old s x) refl
-        (refusing_vs s (now s c) c.number call n (within_now s x) (held_now s x) ((st s x).locks whats.Back ∙ (ap (is_out whats.Back) v.serving.out_is ∙ back_out)) refl (vs_route n small) (bucket s x)
+        (refusing_vs s (now s c) c.number call n (within_now s x) (held_now s x) ((st s x).locks whats.Back ∙ (ap (is_out whats.Back) mine.out_is ∙ back_out)) refl (vs_route n small) (bucket s x)
         (sym (place_is c.opening (now s c).state kept (w.tells s x) n) ∙ no_gap) ((λ i. back_place (sym area i) (sym l i).segments (span_pages_of n)) ∙ no_pages)).may;
   }
 

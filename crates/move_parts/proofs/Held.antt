@@ -9,7 +9,7 @@ use Rattle.heap_model.specs.State.{Setting, Place, is_layer, is_live_of, is_ente
 use Rattle.heap_model.specs.Stay.{for_some}
 use Rattle.heap_model.specs.CallState.{Configuration, Nothing, caller_view}
 use Rattle.heap_model.specs.Legal.{may, may_follow, meets_demand, may_touch, is_begin}
-use Rattle.heap_model.specs.Agreement.{is_locked, is_locked_at, is_exclusive_at}
+use Rattle.heap_model.specs.Agreement.{is_locked, is_locked_at}
 use Rattle.claim_rule.specs.Entries.{entry, is_of_lfh, may_prepare}
 use Rattle.serial_laws.proofs.Found.{find_front}
 use Rattle.call_parts.proofs.Tokens.{prepares}
@@ -36,7 +36,3 @@ module _ (s : Setting) (m : Configuration) (c a size : ℕ) (p : Place) (old : I
       (follows (acts.Take a size) refl
       (and_from (is_entered m.state.gate c) _ ent
       (ap (λ (o : Option Place). for_some o (λ q. may_touch (caller_view m c) q.layer && is_live_of size q.status)) held_there ∙ and_from (may_touch (caller_view m c) p.layer) (is_live_of size p.status) old.touch sized)))
-
--- what is placed the caller alone decides
-pub held_exclusive : (m : Configuration) (c a size : ℕ) (p : Place) → IsHeld m c a p size → is_exclusive_at m c a ≡ true
-held_exclusive m c a size p old = ap (λ (o : Option Place). for_some o (λ q. may_touch (caller_view m c) q.layer)) old.first ∙ old.touch

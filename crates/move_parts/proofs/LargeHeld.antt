@@ -1,7 +1,7 @@
 -- A new block of the large area in hand, for one that moves.
-use Rattle.std.proofs.Common.{◌≡◌, ℕ, ◌+◌, ◌*◌, ◌/◌, ◌≤◌, true, List, [], ◌∷◌, Option, Some, None, refl, sym, ap, ◌∙◌, subst, arith, ltb, inl, inr, eq-eqb}
+use Rattle.std.proofs.Common.{◌≡◌, ℕ, ◌+◌, ◌*◌, ◌/◌, ◌≤◌, Bool, true, List, [], ◌∷◌, Option, Some, None, refl, sym, ap, ◌∙◌, subst, arith, ltb, inl, inr, eq-eqb}
 use Rattle.std.specs.Prelude.{cond}
-use Rattle.std.proofs.lemmas.Bool.{cases_Bool, lt-leb, le-leb, or_right}
+use Rattle.std.proofs.lemmas.Bool.{cases_Bool, lt-leb, le-leb}
 use Rattle.heap_model.specs.declared.Act.{Act}
 use Rattle.heap_model.specs.declared.Act.TheVariants as acts
 use Rattle.heap_model.specs.declared.Call.{Call}
@@ -16,8 +16,7 @@ use Rattle.heap_model.specs.Limits.{AreValid}
 use Rattle.heap_model.specs.Ranges.{large_place, vs_spans}
 use Rattle.heap_model.specs.State.{State, Place, is_layer, places_of}
 use Rattle.heap_model.specs.CallState.{Configuration, caller_view}
-use Rattle.heap_model.specs.Agreement.{holds_old_block, moves_exclusive}
-use Rattle.heap_model.specs.Stay.{for_some}
+use Rattle.heap_model.specs.Agreement.{holds_old_block}
 use Rattle.heap_model.specs.Legal.{suits}
 use Rattle.claim_rule.specs.Entries.{IsLegalWith, setting_of, may_prepare}
 use Rattle.claim_rule.specs.Places.{data_count}
@@ -33,11 +32,11 @@ use Rattle.heap_gate.specs.Token.{Token, Always, now, IsStanding, is_out}
 use Rattle.call_parts.proofs.Handing.{new_place}
 use Rattle.call_parts.proofs.Serving.{within}
 use Rattle.call_parts.proofs.Tokens.{now_more, prepares, one_prepared, added_one}
-use Rattle.move_parts.specs.Moves.{IsMoving, IsHalfway, with_given, TellsLarge}
-use Rattle.move_parts.specs.Places.{HasMade, HasHeldLarge, IsWithout}
+use Rattle.move_parts.specs.Moves.{IsMovingAny, IsHalfwayAny, with_given, TellsLarge}
+use Rattle.move_parts.specs.Places.{HasHeldLarge, IsWithout}
 use Rattle.move_parts.proofs.Ended.{vs_stands, vs_used, back_stands}
-use Rattle.move_parts.proofs.Held.{held_exclusive}
-use Rattle.move_parts.proofs.Holding.{half, given_front}
+use Rattle.move_parts.proofs.Holding.{IsMadePlainly, half_any, given_front}
+use Rattle.move_parts.proofs.Movers.{IsMover, mover, holds_mine}
 use Rattle.move_parts.proofs.Put.{IsPut}
 
 pub huge_route : (n : ℕ) → 520193 ≤ n → is_huge (route_of n) ≡ true
@@ -68,24 +67,25 @@ large_suits c addr n h =
 pub large_limits : (c : Token) (large : LargeTable) → TellsLarge c large → large.limits ≡ c.opening.limits
 large_limits c large t = (t (setting_of c.opening c.roll) (some_setting c.opening c.roll)).limits
 
-module _ (c : Token) (addr size n : ℕ) (flags : Flags) (p : Place) (out : List ℕ) (v : IsMoving c addr size n flags p out) (st : IsStanding c) (held : is_out whats.Large out ≡ true) (large : LargeTable) (w : TellsLarge c large) (huge : is_huge (route_of n) ≡ true) where
+module _ (c : Token) (taken : Bool) (addr size n : ℕ) (flags : Flags) (p : Place) (out : List ℕ) (v : IsMovingAny taken c addr size n flags p out) (st : IsStanding c) (held : is_out whats.Large out ≡ true) (large : LargeTable) (w : TellsLarge c large) (huge : is_huge (route_of n) ≡ true) where
   abbrev call : Call
   call = calls.Realloc addr n flags
 
+  abbrev mine : IsMover c addr n flags p out
+  mine = mover taken c addr size n flags p out v
+
   within_now : Always c (λ s. IsWithin (now s c) c.number call)
-  within_now = within c call st v.serving.inside v.serving.call_is v.serving.whole
+  within_now = within c call st mine.inside mine.call_is mine.whole
 
   held_now : Always c (λ s. (caller_view (now s c) c.number).large ≡ true)
-  held_now s x = (st s x).locks whats.Large ∙ (ap (is_out whats.Large) v.serving.out_is ∙ held)
+  held_now s x = (st s x).locks whats.Large ∙ (ap (is_out whats.Large) mine.out_is ∙ held)
 
   fits_now : (o : Option ℕ) → InEach large (λ o' st'. o ≡ large_place o'.limits st'.large (pages_of n)) → Always c (λ s. large_place s.limits (now s c).state.large (pages_of n) ≡ o)
   fits_now o f s x = ap (λ (l : Limits). large_place l (now s c).state.large (pages_of n)) x.limits ∙ sym (f c.opening (now s c).state (w s x))
 
   -- what it places the caller alone decides
   pub holds_old : Always c (λ s. holds_old_block (now s c) c.number ≡ true)
-  holds_old s x =
-      or_right ((now s c).now.calls c.number).placed (for_some ((now s c).now.calls c.number).call (moves_exclusive (now s c) c.number))
-      (ap (λ (o : Option Call). for_some o (moves_exclusive (now s c) c.number)) (within_now s x).call_is ∙ held_exclusive (now s c) c.number addr size p (v.old s x))
+  holds_old s x = holds_mine (now s c) c.number addr n flags p (within_now s x).call_is (mine.old s x)
 
   module _ (b : ℕ) (fits : InEach large (λ o' st'. Some b ≡ large_place o'.limits st'.large (pages_of n))) where
     abbrev place : Act
@@ -116,30 +116,33 @@ module _ (c : Token) (addr size n : ℕ) (flags : Flags) (p : Place) (out : List
         by layers.Large = refl
 
     module _ (valid : AreValid c.opening.limits) (legal : IsLegalWith c.opening c.roll c.seen) (to : b / 8 + words_of n ≤ data_count c.opening.limits) where
-      large_half : IsHalfway large_token call addr size p b n q out
+      large_half : IsHalfwayAny taken large_token call addr size p b n q out
       large_half =
-          half c addr size n flags p out v st valid legal (place ∷ []) refl layers.Large b (256 * pages_of n) refl (omega arith) v.serving.pending
+          half_any taken c addr size n flags p out v st valid legal (place ∷ []) refl layers.Large b (256 * pages_of n) refl (omega arith) mine.pending
           (λ s x. one_prepared s (now s c) c.number place [] (place_may s x) refl) put_now refl (large_suits c.number b n huge) held_now to
 
-      large_made : HasMade c large_token p n q
+      large_made : IsMadePlainly c large_token p n q
       large_made = record {
-        reserves = [];
-        begins = place;
-        more = [];
-        added = added_one c place refl;
-        begins_it = refl;
-        no_begin = refl;
-        shape_is = refl;
-        reserves_are = inl refl;
+        made = record {
+          reserves = [];
+          begins = place;
+          more = [];
+          added = added_one c place refl;
+          begins_it = refl;
+          no_begin = refl;
+          shape_is = refl;
+          reserves_are = inl refl;
+        };
+        plain = refl;
       }
 
       given_large : Always large_token (λ s. (with_given (now s large_token).state c.number q n).large ≡ with_block (now s c).state.large b n)
       given_large s x = ap (λ (y : State). (with_given y c.number q n).large) (state_now s x) ∙ given_front c.number layers.Large b (256 * pages_of n) n (now s c).state.large
 
-      pub large_held : (t : Token) → t ≡ large_token → (more : LargeTable) → Becomes large more (λ ps. with_block ps b n) → HasHeldLarge c t addr size n flags p out b more
-      large_held t e more becomes = subst (λ (y : Token). HasHeldLarge c y addr size n flags p out b more) (sym e) (record {
+      pub large_held : (t : Token) → t ≡ large_token → (more : LargeTable) → Becomes large more (λ ps. with_block ps b n) → HasHeldLarge taken c t addr size n flags p out b more
+      large_held t e more becomes = subst (λ (y : Token). HasHeldLarge taken c y addr size n flags p out b more) (sym e) (record {
         place = q;
-        held = record { half = large_half; made = large_made };
+        held = record { half = large_half; made = large_made.made; plain = large_made.plain };
         large = λ s x. becomes c.opening (now s c).state (with_given (now s large_token).state c.number q n) (w s x) (given_large s x);
         vs = λ vs f s x. (
           vs_used (now s c).state (with_given (now s large_token).state c.number q n) (ap (λ (y : State). y.vs) (state_now s x)) (ap (λ (y : State). vs_spans y.back.area) (state_now s x)) (f.used s x),

@@ -1,27 +1,29 @@
-mod Lists
-mod Held
-mod Swapped
-mod Dropped
-mod Halfway
-mod Filled
-mod Ended
-mod Put
-mod Backed
-mod Known
-mod Holding
-mod LargeHeld
-mod SpansUsed
-mod Area
-mod SpanGone
-mod SpanEnds
-mod VsEnded
-mod GapHeld
-mod Reserved
-mod SpanHeld
-mod Carving
-mod BackReserved
-mod BackHeld
-mod Stays
-mod Moved
-mod HeldLow
+pub mod Lists
+pub mod Held
+pub mod Swapped
+pub mod Dropped
+pub mod Halfway
+pub mod Filled
+pub mod Ended
+pub mod Put
+pub mod Movers
+pub mod SpanTold
+pub mod Backed
+pub mod Known
+pub mod Holding
+pub mod LargeHeld
+pub mod SpansUsed
+pub mod Area
+pub mod SpanGone
+pub mod SpanEnds
+pub mod VsEnded
+pub mod GapHeld
+pub mod Reserved
+pub mod SpanHeld
+pub mod Carving
+pub mod BackReserved
+pub mod BackHeld
+pub mod Stays
+pub mod Moved
+pub mod HeldLow
 pub mod Shown

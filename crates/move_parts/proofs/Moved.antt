@@ -1,5 +1,5 @@
 -- A new block was held, its words were filled, and the old one went.
-use Rattle.std.proofs.Common.{◌≡◌, ℕ, List, ◌∷◌, length, sym, ◌∙◌, arith}
+use Rattle.std.proofs.Common.{◌≡◌, ℕ, false, List, ◌∷◌, length, sym, ◌∙◌, arith}
 use Rattle.std.specs.Prelude.{min}
 use Rattle.heap_model.specs.declared.Act.TheVariants as acts
 use Rattle.heap_model.specs.declared.Flags.{Flags}
@@ -12,7 +12,7 @@ use Rattle.move_parts.specs.Moves.{IsMoving, HasFilled}
 use Rattle.move_parts.specs.Moved.{HasMoved}
 use Rattle.move_parts.specs.Places.{HasHeld, HasChanged}
 
-pub moved : (c t u d : Token) (addr size n : ℕ) (flags : Flags) (p : Place) (out : List ℕ) (b : ℕ) (q : Place) (values : List ℕ) → IsMoving c addr size n flags p out → HasHeld c t addr size n flags p out b q → length values ≡ words_of (min size n)
+pub moved : (c t u d : Token) (addr size n : ℕ) (flags : Flags) (p : Place) (out : List ℕ) (b : ℕ) (q : Place) (values : List ℕ) → IsMoving c addr size n flags p out → HasHeld false c t addr size n flags p out b q → length values ≡ words_of (min size n)
     → HasFilled t u (moving addr size b n flags.zero values) → HasChanged u d addr size b n → HasMoved c d addr size n flags p b
 moved c t u d addr size n flags p out b q values v h count f e =
     let few = h.half.few in let fill = f.few in let last = e.few in

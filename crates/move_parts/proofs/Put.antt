@@ -3,12 +3,13 @@ use Rattle.std.proofs.Common.{◌≡◌, ℕ, Bool, true, false, List, [], ◌�
 use Rattle.std.specs.Prelude.{cond}
 use Rattle.std.specs.List.{find}
 use Rattle.std.specs.Option.{option_or}
-use Rattle.std.proofs.lemmas.Bool.{eqb-true, ne_eqb, true≢false}
+use Rattle.std.proofs.lemmas.Bool.{cases_Bool, eqb-true, ne_eqb, true≢false}
+use Rattle.std.proofs.lemmas.List.{append-nil}
 use Rattle.std.proofs.lemmas.List.Folds.{find-append}
 use Rattle.heap_model.specs.declared.Layer.{Layer}
 use Rattle.heap_model.specs.declared.Layer.TheVariants as layers
 use Rattle.heap_model.specs.declared.What.TheVariants as whats
-use Rattle.heap_model.specs.State.{Setting, State, GateAndLocks, Place, Live, InHand, is_layer, address, has_address, in_hand, hands, places_of, all_places, holds, guarded, exclusive_places}
+use Rattle.heap_model.specs.State.{Setting, State, GateAndLocks, Place, Live, InHand, is_layer, is_in_hand_of, address, has_address, in_hand, hands, places_of, all_places, holds, guarded, exclusive_places}
 use Rattle.heap_model.specs.CallState.{Configuration, caller_view}
 use Rattle.heap_model.specs.Legal.{may_touch}
 use Rattle.heap_soundness.specs.Sound.{IsOneOf}
@@ -20,7 +21,7 @@ use Rattle.call_laws.proofs.Within.{among_all}
 use Rattle.call_parts.specs.Entries.{holding}
 use Rattle.call_parts.proofs.Handing.{new_place}
 use Rattle.call_parts.proofs.VsBlocks.{has_nothing}
-use Rattle.move_parts.specs.Moves.{IsHeld}
+use Rattle.move_parts.specs.Moves.{IsHeld, IsTaken}
 
 -- the place is in front of those of its layer, and the gate and the locks are as they were
 pub record IsPut (q : Place) (m k : State) : Type 0 where
@@ -28,6 +29,14 @@ pub record IsPut (q : Place) (m k : State) : Type 0 where
   pub lists : (l : Layer) → places_of k l ≡ cond (is_layer l q.layer) (q ∷ places_of m l) (places_of m l)
 
 ---- What is in hand
+
+-- the new place is in hand in front of what was
+pub put_front : (c : ℕ) (l : Layer) (start granules : ℕ) (m k : State) → IsPut (new_place c l start granules) m k → (j : Layer) → in_hand c (places_of k j) ≡ holding (new_place c l start granules) j ++ in_hand c (places_of m j)
+put_front c l start granules m k x j = ap (in_hand c) (x.lists j) ∙ by (is_layer j l)
+  where
+    by : (f : Bool) → in_hand c (cond f (new_place c l start granules ∷ places_of m j) (places_of m j)) ≡ cond f (new_place c l start granules ∷ []) [] ++ in_hand c (places_of m j)
+    by true = let e = eq-eqb c c refl in rw e refl
+    by false = refl
 
 module _ (c : ℕ) (l : Layer) (start granules : ℕ) (m k : State) (x : IsPut (new_place c l start granules) m k) (none : hands m c ≡ []) where
   abbrev q : Place
@@ -40,11 +49,7 @@ module _ (c : ℕ) (l : Layer) (start granules : ℕ) (m k : State) (x : IsPut (
   nothing layers.Large = (has_nothing m c none).large
 
   pub put_hand : (j : Layer) → in_hand c (places_of k j) ≡ holding q j
-  put_hand j = ap (in_hand c) (x.lists j) ∙ by (is_layer j l)
-    where
-      by : (f : Bool) → in_hand c (cond f (q ∷ places_of m j) (places_of m j)) ≡ cond f (q ∷ []) []
-      by true = let e = eq-eqb c c refl in rw e (ap (λ (ps : List Place). q ∷ ps) (nothing j))
-      by false = nothing j
+  put_hand j = put_front c l start granules m k x j ∙ (ap (λ (ps : List Place). holding q j ++ ps) (nothing j) ∙ append-nil (holding q j))
 
   ---- The old block
 
@@ -124,6 +129,12 @@ at_front : (f : Bool) (q : Place) (ps qs : List Place) → f ≡ true → qs ≡
 at_front true q ps qs h e = subst (IsOneOf q) (sym e) (inl refl)
 at_front false q ps qs h e = absurd (true≢false (sym h))
 
+same_layer : (j : Layer) → is_layer j j ≡ true
+same_layer layers.Lfh = refl
+same_layer layers.Vs = refl
+same_layer layers.Back = refl
+same_layer layers.Large = refl
+
 pub two_apart : (s : Setting) (m k : Configuration) (w : Keeps s k) (c : ℕ) (l : Layer) (start granules : ℕ) → IsPut (new_place c l start granules) m.state k.state → (a size : ℕ) (p : Place) → IsHeld m c a p size → a ≡ address (new_place c l start granules) → ⊥
 two_apart s m k w c l start granules x a size p old e =
     let q = new_place c l start granules in
@@ -133,9 +144,22 @@ two_apart s m k w c l start granules x a size p old e =
     let same : p ≡ q = one_address (all_places k.state) p q (all_disjoint s k w) (all_addresses s k w) (among_all k.state p.layer p ip) (among_all k.state l q iq) (at ∙ e) in
     let bad : Live size ≡ InHand c = sym old.live ∙ ap (λ (y : Place). y.status) same in
     let no : ⊥ = cc in no
-  where
-    same_layer : (j : Layer) → is_layer j j ≡ true
-    same_layer layers.Lfh = refl
-    same_layer layers.Vs = refl
-    same_layer layers.Back = refl
-    same_layer layers.Large = refl
+
+---- .. so have a new place and one that was taken
+
+pub in_one : (c : ℕ) (p : Place) (ps : List Place) → in_hand c ps ≡ p ∷ [] → IsOneOf p ps
+in_one c p [] e = let no : ⊥ = cc in absurd no
+in_one c p (x ∷ xs) e = elim (cases_Bool (is_in_hand_of c x.status)) [
+  | inl h ↦ let f : x ∷ in_hand c xs ≡ p ∷ [] = rw h at e in let same : x ≡ p = cc in inl same
+  | inr h ↦ inr (in_one c p xs (rw h at e))
+]
+
+pub taken_apart : (s : Setting) (m k : Configuration) (w : Keeps s k) (c : ℕ) (l : Layer) (start granules : ℕ) → IsPut (new_place c l start granules) m.state k.state → is_layer l layers.Lfh ≡ false → (a : ℕ) (p : Place) → IsTaken m c a p → a ≡ address (new_place c l start granules) → ⊥
+taken_apart s m k w c l start granules x other_layer a p old e =
+    let q = new_place c l start granules in
+    let front : in_hand c m.state.lfh ≡ p ∷ [] = old.hand layers.Lfh ∙ ap (λ (j : Layer). cond (is_layer layers.Lfh j) (p ∷ []) []) old.front in
+    let ip = in_front (is_layer layers.Lfh l) p q m.state.lfh k.state.lfh (x.lists layers.Lfh) (in_one c p m.state.lfh front) in
+    let iq = at_front (is_layer l l) q (places_of m.state l) (places_of k.state l) (same_layer l) (x.lists l) in
+    let same : p ≡ q = one_address (all_places k.state) p q (all_disjoint s k w) (all_addresses s k w) (among_all k.state layers.Lfh p ip) (among_all k.state l q iq) (old.at ∙ e) in
+    let both : l ≡ layers.Lfh = ap (λ (y : Place). y.layer) (sym same) ∙ old.front in
+    true≢false (ap (λ (j : Layer). is_layer j layers.Lfh) (sym both) ∙ other_layer)

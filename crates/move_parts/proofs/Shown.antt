@@ -38,7 +38,7 @@ copying_shown : (from to : ℕ) (values : List ℕ) → (shape_of (copying from 
 copying_shown from to [] = (refl, refl)
 copying_shown from to (v ∷ vs) = let h = copying_shown (from + 1) (to + 1) vs in (ap (λ (l : List Act). acts.Load from v ∷ acts.Store to v ∷ l) h.0, h.1)
 
-moving_shown : (addr size b n : ℕ) (zero_it : Bool) (values : List ℕ) → (shape_of (moving addr size b n zero_it values) ≡ moving addr size b n zero_it values) × (none_begins (moving addr size b n zero_it values) ≡ true)
+pub moving_shown : (addr size b n : ℕ) (zero_it : Bool) (values : List ℕ) → (shape_of (moving addr size b n zero_it values) ≡ moving addr size b n zero_it values) × (none_begins (moving addr size b n zero_it values) ≡ true)
 moving_shown addr size b n zero_it values =
     let xs = copying (addr / 8) (b / 8) values in let ys = zeroing_more zero_it b size n in
     let h = copying_shown (addr / 8) (b / 8) values in let k = zeros_shown zero_it (b / 8 + words_of size) (words_of n - words_of size) in

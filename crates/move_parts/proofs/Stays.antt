@@ -26,7 +26,7 @@ use Rattle.vs_layer.specs.Standing as vss
 use Rattle.heap_gate.specs.Token.{Token, now, IsStanding, is_out}
 use Rattle.call_parts.specs.Entries.{holding}
 use Rattle.call_parts.proofs.Joining.{setting_before}
-use Rattle.move_parts.specs.Moves.{IsHeld, IsHalfway, IsSameFor, HasFilled, with_given, WillTellVs, WillTellBack, WillTellLarge}
+use Rattle.move_parts.specs.Moves.{IsHeld, IsHalfway, IsHalfwayTaken, IsSameFor, HasFilled, with_given, WillTellVs, WillTellBack, WillTellLarge}
 use Rattle.move_parts.proofs.Ended.{vs_stands, vs_used, back_stands, large_stands}
 
 guarded_same : (ps qs : List Place) (b d : Bool) → d ≡ b → (b ≡ true → qs ≡ ps) → guarded qs d ≡ guarded ps b
@@ -97,6 +97,35 @@ module _ (c d : Token) (acts : List Act) (f : HasFilled c d acts) where
       open_to = λ s x. subst (λ (k : ℕ). may_touch (caller_view (now s d) k) q.layer ≡ true) (sym number) (touch_same c.number (now s c) (now s d) q.layer (f.same s x) ∙ h.new.open_to s (before s x));
     };
     old = λ s x. subst (λ (k : ℕ). IsHeld (now s d) k addr p size) (sym number) (held_same c.number (now s c) (now s d) addr size p (f.same s x) (h.old s (before s x)));
+    apart = h.apart;
+    from = subst (λ (o : Opening). addr / 8 + words_of size ≤ data_count o.limits) (sym same_opening) h.from;
+    to = subst (λ (o : Opening). b / 8 + words_of n ≤ data_count o.limits) (sym same_opening) h.to;
+  }
+
+  -- .. so it is beside an old block that was taken
+  pub taken_filled : (call : Call) (addr size b n : ℕ) (p q : Place) (out : List ℕ) → IsHalfwayTaken c call addr size p b n q out → IsHalfwayTaken d call addr size p b n q out
+  taken_filled call addr size b n p q out h = record {
+    call_is = f.added.steady.call ∙ h.call_is;
+    fresh = f.added.steady.fresh ∙ h.fresh;
+    out_is = f.out_is ∙ h.out_is;
+    pending = f.pending h.pending;
+    drawn = f.added.steady.searched ∙ (h.drawn ∙ sym f.added.steady.drawn);
+    owes = f.added.steady.owes ∙ h.owes;
+    few = let a = f.few in let b = h.few in omega (arith, a, b);
+    new = record {
+      at = h.new.at;
+      suits_it = h.new.suits_it;
+      behind = h.new.behind;
+      status = h.new.status ∙ ap InHand (sym number);
+      inside = f.added.steady.inside ∙ h.new.inside;
+      whole = f.whole;
+      begun = ap is_some f.added.steady.call ∙ h.new.begun;
+      hand = λ s x layer. subst (λ (k : ℕ). in_hand k (places_of (now s d).state layer) ≡ holding q layer ++ holding p layer) (sym number) ((f.same s x).hand layer ∙ h.new.hand s (before s x) layer);
+      open_to = λ s x. subst (λ (k : ℕ). may_touch (caller_view (now s d) k) q.layer ≡ true) (sym number) (touch_same c.number (now s c) (now s d) q.layer (f.same s x) ∙ h.new.open_to s (before s x));
+    };
+    old_at = h.old_at;
+    old_front = h.old_front;
+    old_status = h.old_status ∙ ap InHand (sym number);
     apart = h.apart;
     from = subst (λ (o : Opening). addr / 8 + words_of size ≤ data_count o.limits) (sym same_opening) h.from;
     to = subst (λ (o : Opening). b / 8 + words_of n ≤ data_count o.limits) (sym same_opening) h.to;

@@ -1,5 +1,5 @@
 -- A block that has to move, and the new one that it moves to.
-use Rattle.std.specs.Prelude.{◌≡◌, ℕ, ◌+◌, ◌/◌, ◌≤◌, true, false, List, [], length, Some}
+use Rattle.std.specs.Prelude.{◌≡◌, ℕ, ◌+◌, ◌/◌, ◌≤◌, Bool, true, false, List, [], ◌++◌, length, is_some, Some}
 use Rattle.std.specs.List.{find}
 use Rattle.heap_model.specs.declared.Act.{Act}
 use Rattle.heap_model.specs.declared.Call.{Call}
@@ -10,10 +10,10 @@ use Rattle.heap_model.specs.declared.What.TheVariants as whats
 use Rattle.heap_model.specs.CallState.{Configuration, caller_view}
 use Rattle.heap_model.specs.Geometry.{words_of}
 use Rattle.heap_model.specs.Layers.{StandsForVs, StandsForBack, StandsForLarge}
-use Rattle.heap_model.specs.Legal.{may_touch, with_places, with_status, leaves_whole}
+use Rattle.heap_model.specs.Legal.{may_touch, suits, with_places, with_status, leaves_whole}
 use Rattle.heap_model.specs.Ranges.{vs_spans}
 use Rattle.heap_model.specs.Stay.{lets_stay}
-use Rattle.heap_model.specs.State.{State, Place, Live, is_layer, address, has_address, is_hand_at, places_of, in_hand, holds, exclusive_places, change_found}
+use Rattle.heap_model.specs.State.{State, Place, Live, InHand, is_layer, address, has_address, is_hand_at, places_of, in_hand, holds, exclusive_places, change_found}
 use Rattle.heap_model.specs.declared.Layer.{Layer}
 use Rattle.heap_model.specs.declared.What.{What}
 use Rattle.claim_rule.specs.Entries.{have_slots}
@@ -26,7 +26,7 @@ use Rattle.large_blocks.specs.Table as larges
 use Rattle.vs_layer.specs.Kept.{VsKept}
 use Rattle.vs_layer.specs.Standing as vss
 use Rattle.call_parts.specs.Calls.{IsServing}
-use Rattle.call_parts.specs.Entries.{HasNew, HasAdded}
+use Rattle.call_parts.specs.Entries.{HasNew, HasAdded, holding}
 
 ---- The old block
 
@@ -48,6 +48,39 @@ pub record IsMoving (c : Token) (addr size n : ℕ) (flags : Flags) (p : Place) 
   pub from : addr / 8 + words_of size ≤ data_count c.opening.limits
   pub slots : have_slots c.opening.limits.slots c.roll ≡ true
 
+---- An old block that was taken
+
+-- The block at addr, which this place is, is one of the front end, and all that the caller has in hand.
+pub record IsTaken (m : Configuration) (c addr : ℕ) (p : Place) : Type 0 where
+  pub at : address p ≡ addr
+  pub front : p.layer ≡ layers.Lfh
+  pub status : p.status ≡ InHand c
+  pub hand : (layer : Layer) → in_hand c (places_of m.state layer) ≡ holding p layer
+
+-- The caller moves such a block, which had this size, to one of n bytes. It is at rest with these locks but for the block in hand, and has not placed; where it
+-- has searched, it is by its draw. The rest is as for a live block.
+pub record IsMovingTaken (c : Token) (addr size n : ℕ) (flags : Flags) (p : Place) (out : List ℕ) : Type 0 where
+  pub call_is : c.call ≡ Some (calls.Realloc addr n flags)
+  pub fresh : c.fresh ≡ false
+  pub inside : c.inside ≡ true
+  pub out_is : c.out ≡ out
+  pub whole : c.whole ≡ true
+  pub pending : c.pending ≡ false
+  pub prepared : c.prepared ≡ []
+  pub drawn : c.searched ≡ c.drawn
+  pub owes : c.owes ≡ []
+  pub placed : Always c (λ s. ((now s c).now.calls c.number).placed ≡ false)
+  pub may_move : flags.in_place ≡ false
+  pub old : Always c (λ s. IsTaken (now s c) c.number addr p)
+  pub leaves : Always c (λ s. lets_stay s.limits (now s c).state p n ≡ false)
+  pub from : addr / 8 + words_of size ≤ data_count c.opening.limits
+  pub slots : have_slots c.opening.limits.slots c.roll ≡ true
+
+-- either of them, by whether it was taken
+abbrev pub IsMovingAny : Bool → Token → ℕ → ℕ → ℕ → Flags → Place → List ℕ → Type 0
+IsMovingAny true c addr size n flags p out = IsMovingTaken c addr size n flags p out
+IsMovingAny false c addr size n flags p out = IsMoving c addr size n flags p out
+
 ---- The new block in hand
 
 -- the state in which the place in hand is given with n bytes
@@ -68,6 +101,38 @@ pub record IsHalfway (c : Token) (call : Call) (addr size : ℕ) (p : Place) (b 
   pub apart : addr ≡ b → ⊥
   pub from : addr / 8 + words_of size ≤ data_count c.opening.limits
   pub to : b / 8 + words_of n ≤ data_count c.opening.limits
+
+-- .. beside the old one, which was taken: these two places are all that the caller has in hand
+pub record HasNewBeside (c : Token) (p q : Place) (b n : ℕ) : Type 0 where
+  pub at : address q ≡ b
+  pub suits_it : suits n q ≡ true
+  pub behind : is_layer q.layer layers.Lfh ≡ false
+  pub status : q.status ≡ InHand c.number
+  pub inside : c.inside ≡ true
+  pub whole : c.whole ≡ true
+  pub begun : is_some c.call ≡ true
+  pub hand : Always c (λ s. (layer : Layer) → in_hand c.number (places_of (now s c).state layer) ≡ holding q layer ++ holding p layer)
+  pub open_to : Always c (λ s. may_touch (caller_view (now s c) c.number) q.layer ≡ true)
+
+pub record IsHalfwayTaken (c : Token) (call : Call) (addr size : ℕ) (p : Place) (b n : ℕ) (q : Place) (out : List ℕ) : Type 0 where
+  pub call_is : c.call ≡ Some call
+  pub fresh : c.fresh ≡ false
+  pub out_is : c.out ≡ out
+  pub pending : c.pending ≡ false
+  pub drawn : c.searched ≡ c.drawn
+  pub owes : c.owes ≡ []
+  pub few : length c.prepared ≤ 3
+  pub new : HasNewBeside c p q b n
+  pub old_at : address p ≡ addr
+  pub old_front : p.layer ≡ layers.Lfh
+  pub old_status : p.status ≡ InHand c.number
+  pub apart : addr ≡ b → ⊥
+  pub from : addr / 8 + words_of size ≤ data_count c.opening.limits
+  pub to : b / 8 + words_of n ≤ data_count c.opening.limits
+
+abbrev pub IsHalfwayAny : Bool → Token → Call → ℕ → ℕ → Place → ℕ → ℕ → Place → List ℕ → Type 0
+IsHalfwayAny true c call addr size p b n q out = IsHalfwayTaken c call addr size p b n q out
+IsHalfwayAny false c call addr size p b n q out = IsHalfway c call addr size p b n q out
 
 -- once the new block is given, this state of VS tells what its lock guards, and each span of VS has a place
 abbrev pub WillTellVs : Token → Place → ℕ → VsKept → Type 0

@@ -1,5 +1,5 @@
 -- How a move places its new block, and how its old one goes.
-use Rattle.std.specs.Prelude.{◌≡◌, ◌⊎◌, ℕ, ◌+◌, ◌≤◌, true, false, not, List, [], ◌∷◌, ◌++◌, length, Some}
+use Rattle.std.specs.Prelude.{◌≡◌, ◌⊎◌, ℕ, ◌+◌, ◌≤◌, Bool, true, false, not, List, [], ◌∷◌, ◌++◌, length, Some}
 use Rattle.std.specs.List.{list_all}
 use Rattle.heap_model.specs.declared.Act.{Act}
 use Rattle.heap_model.specs.declared.Act.TheVariants as acts
@@ -19,7 +19,7 @@ use Rattle.backend_fit.specs.Kept.{Kept}
 use Rattle.large_blocks.specs.Table.{LargeTable}
 use Rattle.vs_layer.specs.Kept.{VsKept}
 use Rattle.vs_calls.specs.Parts.{without_span, IsEmptySpan}
-use Rattle.move_parts.specs.Moves.{IsHalfway, with_given, WillTellVs, WillTellBack, WillTellLarge, TellsVs, TellsBack, TellsLarge}
+use Rattle.move_parts.specs.Moves.{IsHalfwayAny, with_given, WillTellVs, WillTellBack, WillTellLarge, TellsVs, TellsBack, TellsLarge}
 
 ---- The place
 
@@ -69,15 +69,23 @@ pub record EndsBack (old new : Token) (addr size b n : ℕ) (q : Place) (kept : 
 
 ---- A new block in hand
 
--- The caller has prepared a place for n bytes, at b, and has it in hand.
-pub record HasHeld (old new : Token) (addr size n : ℕ) (flags : Flags) (p : Place) (out : List ℕ) (b : ℕ) (q : Place) : Type 0 where
-  pub half : IsHalfway new (calls.Realloc addr n flags) addr size p b n q out
+-- the act reserves a segment, or makes a span or a place
+abbrev pub is_making : Act → Bool
+is_making (acts.Reserve segment) = true
+is_making (acts.Span first pages kind bucket slot) = true
+is_making (acts.Place start granules layer) = true
+is_making _ = false
+
+-- The caller has prepared a place for n bytes, at b, and has it in hand; its old block it has still to take, or has taken.
+pub record HasHeld (taken : Bool) (old new : Token) (addr size n : ℕ) (flags : Flags) (p : Place) (out : List ℕ) (b : ℕ) (q : Place) : Type 0 where
+  pub half : IsHalfwayAny taken new (calls.Realloc addr n flags) addr size p b n q out
   pub made : HasMade old new p n q
+  pub plain : list_all is_making (made.reserves ++ made.begins ∷ made.more) ≡ true
 
 -- .. in the large area, whose table has it already
-pub record HasHeldLarge (old new : Token) (addr size n : ℕ) (flags : Flags) (p : Place) (out : List ℕ) (b : ℕ) (table : LargeTable) : Type 0 where
+pub record HasHeldLarge (taken : Bool) (old new : Token) (addr size n : ℕ) (flags : Flags) (p : Place) (out : List ℕ) (b : ℕ) (table : LargeTable) : Type 0 where
   pub place : Place
-  pub held : HasHeld old new addr size n flags p out b place
+  pub held : HasHeld taken old new addr size n flags p out b place
   pub large : WillTellLarge new place n table
   pub vs : (vs : VsKept) → TellsVs old vs → WillTellVs new place n vs
   pub back : (back : Kept) → TellsBack old back → WillTellBack new place n back
@@ -114,25 +122,25 @@ pub record EndsVs (old new : Token) (addr size b n : ℕ) (q : Place) (more : Vs
   pub large : (large : LargeTable) → WillTellLarge old q n large → TellsLarge new large
 
 -- .. in VS, whose state has it already; the back end is as it was
-pub record HasHeldVs (old new : Token) (addr size n : ℕ) (flags : Flags) (p : Place) (out : List ℕ) (b : ℕ) (more : VsKept) : Type 0 where
+pub record HasHeldVs (taken : Bool) (old new : Token) (addr size n : ℕ) (flags : Flags) (p : Place) (out : List ℕ) (b : ℕ) (more : VsKept) : Type 0 where
   pub place : Place
-  pub held : HasHeld old new addr size n flags p out b place
+  pub held : HasHeld taken old new addr size n flags p out b place
   pub vs : WillTellVs new place n more
   pub back : (back : Kept) → TellsBack old back → WillTellBack new place n back
   pub large : (large : LargeTable) → TellsLarge old large → WillTellLarge new place n large
 
 -- .. in a span of VS that was made for it
-pub record HasHeldAnew (old new : Token) (addr size n : ℕ) (flags : Flags) (p : Place) (out : List ℕ) (b : ℕ) (more : VsKept) (kept : Kept) : Type 0 where
+pub record HasHeldAnew (taken : Bool) (old new : Token) (addr size n : ℕ) (flags : Flags) (p : Place) (out : List ℕ) (b : ℕ) (more : VsKept) (kept : Kept) : Type 0 where
   pub place : Place
-  pub held : HasHeld old new addr size n flags p out b place
+  pub held : HasHeld taken old new addr size n flags p out b place
   pub vs : WillTellVs new place n more
   pub back : WillTellBack new place n kept
   pub large : (large : LargeTable) → TellsLarge old large → WillTellLarge new place n large
 
 -- .. in the back end, whose state has it already
-pub record HasHeldBack (old new : Token) (addr size n : ℕ) (flags : Flags) (p : Place) (out : List ℕ) (b : ℕ) (kept : Kept) : Type 0 where
+pub record HasHeldBack (taken : Bool) (old new : Token) (addr size n : ℕ) (flags : Flags) (p : Place) (out : List ℕ) (b : ℕ) (kept : Kept) : Type 0 where
   pub place : Place
-  pub held : HasHeld old new addr size n flags p out b place
+  pub held : HasHeld taken old new addr size n flags p out b place
   pub back : WillTellBack new place n kept
   pub vs : (vs : VsKept) → TellsVs old vs → WillTellVs new place n vs
   pub large : (large : LargeTable) → TellsLarge old large → WillTellLarge new place n large

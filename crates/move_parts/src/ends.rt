@@ -76,7 +76,7 @@ pub fn end_back(
 
 /// Gives the span of the variable-size layer that begins at a page, in which no block is left, to the back end, by an entry that is
 /// prepared.
-fn end_span(c: &mut Caller<State>, back: &mut Back, first: u32)
+pub fn end_span(c: &mut Caller<State>, back: &mut Back, first: u32)
     requires ends { MayEnd c.old back.old first }
     requires room { length c.old.prepared < 16 }
     ensures { HasEndedSpan c.old c.new back.new first }

@@ -1,5 +1,5 @@
 //! A new block for one that moves, in hand: its place is prepared under the lock of its layer.
-ghost use Rattle.std.specs.Prelude.{◌≡◌, ◌*◌, ◌+◌, ◌<◌, ◌≤◌, [], ℕ, List, true, None, is_some, IfSome, IfNone};
+ghost use Rattle.std.specs.Prelude.{◌≡◌, ◌*◌, ◌+◌, ◌<◌, ◌≤◌, [], Bool, ℕ, List, true, None, is_some, IfSome, IfNone};
 ghost use Rattle.heap_model.specs.declared.Flags.{Flags as AFlags};
 ghost use Rattle.heap_model.specs.declared.What.TheVariants as whats;
 ghost use Rattle.heap_model.specs.Geometry.{pages_of};
@@ -11,7 +11,7 @@ ghost use Rattle.call_parts.specs.Entries.{with_all, block_acts};
 ghost use Rattle.paged_calls.specs.Blocks.{Carves};
 ghost use Rattle.vs_layer.specs.Kept.{place_for};
 ghost use Rattle.vs_calls.specs.Blocks.{IsForVs};
-ghost use Rattle.move_parts.specs.Moves.{IsMoving, TellsVs, TellsBack, TellsLarge};
+ghost use Rattle.move_parts.specs.Moves.{IsMovingAny, TellsVs, TellsBack, TellsLarge};
 ghost use Rattle.move_parts.specs.Places.{HasHeldLarge, HasHeldVs, HasHeldAnew, HasHeldBack, IsWithout};
 
 use backend_fit::Back;
@@ -39,8 +39,8 @@ pub fn hold_large(
 ) -> Option<u64>
     requires size { 520193 ≤ n }
     requires opening { c.old.opening ≡ heap.now.opening }
-    requires moving { (addr size : ℕ) × (flags : AFlags) × (p : Place) × (out : List ℕ) × IsMoving c.old addr size n flags p out × (is_out whats.Large out ≡ true) × TellsLarge c.old large.old }
-    ensures held { IfSome result (λ b. (addr size : ℕ) (flags : AFlags) (p : Place) (out : List ℕ) → IsMoving c.old addr size n flags p out → is_out whats.Large out ≡ true → TellsLarge c.old large.old → HasHeldLarge c.old c.new addr size n flags p out b large.new) }
+    requires moving { (taken : Bool) × (addr size : ℕ) × (flags : AFlags) × (p : Place) × (out : List ℕ) × IsMovingAny taken c.old addr size n flags p out × (is_out whats.Large out ≡ true) × TellsLarge c.old large.old }
+    ensures held { IfSome result (λ b. (taken : Bool) (addr size : ℕ) (flags : AFlags) (p : Place) (out : List ℕ) → IsMovingAny taken c.old addr size n flags p out → is_out whats.Large out ≡ true → TellsLarge c.old large.old → HasHeldLarge taken c.old c.new addr size n flags p out b large.new) }
     ensures none { IfNone result (IsWithout c.old c.new n × (large.new ≡ large.old)) }
 {
     let _limits = heap.limits();
@@ -67,10 +67,10 @@ pub fn hold_large(
 fn hold_gap(heap: &Heap<State>, c: &mut Caller<State>, vs: &mut Vs, n: u64) -> u64
     requires size { n ≤ 131072 }
     requires opening { c.old.opening ≡ heap.now.opening }
-    requires moving { (addr size : ℕ) × (flags : AFlags) × (p : Place) × (out : List ℕ) × IsMoving c.old addr size n flags p out × (is_out whats.Vs out ≡ true) × TellsVs c.old vs.old }
+    requires moving { (taken : Bool) × (addr size : ℕ) × (flags : AFlags) × (p : Place) × (out : List ℕ) × IsMovingAny taken c.old addr size n flags p out × (is_out whats.Vs out ≡ true) × TellsVs c.old vs.old }
     requires bucket { IsForVs c.old n }
     requires fits { is_some (place_for vs.old n) ≡ true }
-    ensures { (addr size : ℕ) (flags : AFlags) (p : Place) (out : List ℕ) → IsMoving c.old addr size n flags p out → is_out whats.Vs out ≡ true → TellsVs c.old vs.old → HasHeldVs c.old c.new addr size n flags p out result vs.new }
+    ensures { (taken : Bool) (addr size : ℕ) (flags : AFlags) (p : Place) (out : List ℕ) → IsMovingAny taken c.old addr size n flags p out → is_out whats.Vs out ≡ true → TellsVs c.old vs.old → HasHeldVs taken c.old c.new addr size n flags p out result vs.new }
 {
     let _limits = heap.limits();
     c.check();
@@ -90,10 +90,10 @@ fn hold_span(
 ) -> Option<u64>
     requires size { n ≤ 131072 }
     requires opening { c.old.opening ≡ heap.now.opening }
-    requires moving { (addr size : ℕ) × (flags : AFlags) × (p : Place) × (out : List ℕ) × IsMoving c.old addr size n flags p out × (is_out whats.Vs out ≡ true) × TellsVs c.old vs.old × (is_out whats.Back out ≡ true) × TellsBack c.old back.old }
+    requires moving { (taken : Bool) × (addr size : ℕ) × (flags : AFlags) × (p : Place) × (out : List ℕ) × IsMovingAny taken c.old addr size n flags p out × (is_out whats.Vs out ≡ true) × TellsVs c.old vs.old × (is_out whats.Back out ≡ true) × TellsBack c.old back.old }
     requires bucket { IsForVs c.old n }
     requires no_gap { place_for vs.old n ≡ None }
-    ensures held { IfSome result (λ b. (addr size : ℕ) (flags : AFlags) (p : Place) (out : List ℕ) → IsMoving c.old addr size n flags p out → is_out whats.Vs out ≡ true → TellsVs c.old vs.old → is_out whats.Back out ≡ true → TellsBack c.old back.old → HasHeldAnew c.old c.new addr size n flags p out b vs.new back.new) }
+    ensures held { IfSome result (λ b. (taken : Bool) (addr size : ℕ) (flags : AFlags) (p : Place) (out : List ℕ) → IsMovingAny taken c.old addr size n flags p out → is_out whats.Vs out ≡ true → TellsVs c.old vs.old → is_out whats.Back out ≡ true → TellsBack c.old back.old → HasHeldAnew taken c.old c.new addr size n flags p out b vs.new back.new) }
     ensures none { IfNone result (IsWithout c.old c.new n × (vs.new ≡ vs.old) × (back.new ≡ back.old)) }
 {
     let _limits = heap.limits();
@@ -118,9 +118,9 @@ pub fn hold_vs(
 ) -> Option<u64>
     requires size { n ≤ 131072 }
     requires opening { c.old.opening ≡ heap.now.opening }
-    requires moving { (addr size : ℕ) × (flags : AFlags) × (p : Place) × (out : List ℕ) × IsMoving c.old addr size n flags p out × (is_out whats.Vs out ≡ true) × TellsVs c.old vs.old × (is_out whats.Back out ≡ true) × TellsBack c.old back.old }
+    requires moving { (taken : Bool) × (addr size : ℕ) × (flags : AFlags) × (p : Place) × (out : List ℕ) × IsMovingAny taken c.old addr size n flags p out × (is_out whats.Vs out ≡ true) × TellsVs c.old vs.old × (is_out whats.Back out ≡ true) × TellsBack c.old back.old }
     requires bucket { IsForVs c.old n }
-    ensures held { IfSome result (λ b. (addr size : ℕ) (flags : AFlags) (p : Place) (out : List ℕ) → IsMoving c.old addr size n flags p out → is_out whats.Vs out ≡ true → TellsVs c.old vs.old → is_out whats.Back out ≡ true → TellsBack c.old back.old → HasHeldAnew c.old c.new addr size n flags p out b vs.new back.new) }
+    ensures held { IfSome result (λ b. (taken : Bool) (addr size : ℕ) (flags : AFlags) (p : Place) (out : List ℕ) → IsMovingAny taken c.old addr size n flags p out → is_out whats.Vs out ≡ true → TellsVs c.old vs.old → is_out whats.Back out ≡ true → TellsBack c.old back.old → HasHeldAnew taken c.old c.new addr size n flags p out b vs.new back.new) }
     ensures none { IfNone result (IsWithout c.old c.new n × (vs.new ≡ vs.old) × (back.new ≡ back.old)) }
 {
     if vs.fit(n) {
@@ -183,8 +183,8 @@ fn prepare_block(c: &mut Caller<State>, reserved: u32, first: u32, n: u64)
 pub fn hold_back(heap: &Heap<State>, c: &mut Caller<State>, back: &mut Back, n: u64) -> Option<u64>
     requires size { (131073 ≤ n) × (n ≤ 520192) }
     requires opening { c.old.opening ≡ heap.now.opening }
-    requires moving { (addr size : ℕ) × (flags : AFlags) × (p : Place) × (out : List ℕ) × IsMoving c.old addr size n flags p out × (is_out whats.Back out ≡ true) × TellsBack c.old back.old }
-    ensures held { IfSome result (λ b. (addr size : ℕ) (flags : AFlags) (p : Place) (out : List ℕ) → IsMoving c.old addr size n flags p out → is_out whats.Back out ≡ true → TellsBack c.old back.old → HasHeldBack c.old c.new addr size n flags p out b back.new) }
+    requires moving { (taken : Bool) × (addr size : ℕ) × (flags : AFlags) × (p : Place) × (out : List ℕ) × IsMovingAny taken c.old addr size n flags p out × (is_out whats.Back out ≡ true) × TellsBack c.old back.old }
+    ensures held { IfSome result (λ b. (taken : Bool) (addr size : ℕ) (flags : AFlags) (p : Place) (out : List ℕ) → IsMovingAny taken c.old addr size n flags p out → is_out whats.Back out ≡ true → TellsBack c.old back.old → HasHeldBack taken c.old c.new addr size n flags p out b back.new) }
     ensures none { IfNone result (IsWithout c.old c.new n × (back.new ≡ back.old)) }
 {
     let _limits = heap.limits();

@@ -10,7 +10,7 @@ mod holds;
 mod moves;
 mod words;
 
-pub use ends::{end_back, end_large, end_vs};
+pub use ends::{end_back, end_large, end_span, end_vs};
 pub use far::{move_back_far, move_large, move_large_low, move_vs_far};
 pub use holds::{hold_back, hold_large, hold_vs};
 pub use moves::{hold_low, move_back, move_vs};

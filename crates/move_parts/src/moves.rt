@@ -1,12 +1,12 @@
 //! A block that moves to another place, under the locks of its layer and of the one where the new block goes.
-ghost use Rattle.std.specs.Prelude.{◌≡◌, ◌/◌, ◌≤◌, ℕ, List, true, IfSome, IfNone};
+ghost use Rattle.std.specs.Prelude.{◌≡◌, ◌/◌, ◌≤◌, Bool, ℕ, List, true, IfSome, IfNone};
 ghost use Rattle.heap_model.specs.declared.Flags.{Flags as AFlags};
 ghost use Rattle.heap_model.specs.declared.Layer.TheVariants as layers;
 ghost use Rattle.heap_model.specs.declared.What.TheVariants as whats;
 ghost use Rattle.heap_model.specs.State.{Place};
 ghost use Rattle.heap_gate.specs.Token.{is_out};
 ghost use Rattle.vs_calls.specs.Blocks.{IsForVs};
-ghost use Rattle.move_parts.specs.Moves.{IsMoving, TellsVs, TellsBack};
+ghost use Rattle.move_parts.specs.Moves.{IsMoving, IsMovingAny, TellsVs, TellsBack};
 ghost use Rattle.move_parts.specs.Places.{HasHeldAnew, IsWithout};
 ghost use Rattle.move_parts.specs.Moved.{HasMovedLow};
 
@@ -30,9 +30,9 @@ pub fn hold_low(
 ) -> Option<u64>
     requires size { n ≤ 520192 }
     requires opening { c.old.opening ≡ heap.now.opening }
-    requires moving { (addr size : ℕ) × (flags : AFlags) × (p : Place) × (out : List ℕ) × IsMoving c.old addr size n flags p out × (is_out whats.Vs out ≡ true) × TellsVs c.old vs.old × (is_out whats.Back out ≡ true) × TellsBack c.old back.old }
+    requires moving { (taken : Bool) × (addr size : ℕ) × (flags : AFlags) × (p : Place) × (out : List ℕ) × IsMovingAny taken c.old addr size n flags p out × (is_out whats.Vs out ≡ true) × TellsVs c.old vs.old × (is_out whats.Back out ≡ true) × TellsBack c.old back.old }
     requires bucket { n ≤ 131072 → IsForVs c.old n }
-    ensures held { IfSome result (λ b. (addr size : ℕ) (flags : AFlags) (p : Place) (out : List ℕ) → IsMoving c.old addr size n flags p out → is_out whats.Vs out ≡ true → TellsVs c.old vs.old → is_out whats.Back out ≡ true → TellsBack c.old back.old → HasHeldAnew c.old c.new addr size n flags p out b vs.new back.new) }
+    ensures held { IfSome result (λ b. (taken : Bool) (addr size : ℕ) (flags : AFlags) (p : Place) (out : List ℕ) → IsMovingAny taken c.old addr size n flags p out → is_out whats.Vs out ≡ true → TellsVs c.old vs.old → is_out whats.Back out ≡ true → TellsBack c.old back.old → HasHeldAnew taken c.old c.new addr size n flags p out b vs.new back.new) }
     ensures none { IfNone result (IsWithout c.old c.new n × (vs.new ≡ vs.old) × (back.new ≡ back.old)) }
 {
     if n <= MOST_VARIABLE {

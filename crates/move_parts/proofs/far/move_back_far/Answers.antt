@@ -1,4 +1,4 @@
-use Rattle.std.proofs.Common.{◌≡◌, ◌∙◌, Bool, true, sym, ap, subst}
+use Rattle.std.proofs.Common.{◌≡◌, ◌∙◌, Bool, true, false, sym, ap, subst}
 use Rattle.heap_model.specs.declared.Call.TheVariants as calls
 use Rattle.heap_model.specs.declared.What.TheVariants as whats
 use Rattle.heap_model.specs.Shape.{moving}
@@ -9,31 +9,31 @@ use Rattle.move_parts.proofs.Stays.{half_filled, will_vs, will_back, will_large}
 use Rattle.move_parts.proofs.far.move_back_far.Goals as goal
 
 pub hold_large-requires-clause-moving : goal.hold_large-requires-clause-moving
-hold_large-requires-clause-moving c = let h = c.requires.moving in (c.args.addr, c.args.size, h.0, h.1, h.2, h.3, h.7, h.8)
+hold_large-requires-clause-moving c = let h = c.requires.moving in (false, c.args.addr, c.args.size, h.0, h.1, h.2, h.3, h.7, h.8)
 
 pub move_words-requires-clause-table : goal.move_words-requires-clause-table
 move_words-requires-clause-table c =
-    let h = c.requires.moving in let x = c.in-Some.ensures.held c.args.addr c.args.size h.0 h.1 h.2 h.3 h.7 h.8 in
+    let h = c.requires.moving in let x = c.in-Some.ensures.held false c.args.addr c.args.size h.0 h.1 h.2 h.3 h.7 h.8 in
     (x.held.made.added.goes.table ∙ c.requires.table.0, x.held.made.added.goes.opening ∙ c.requires.table.1)
 
 pub move_words-requires-clause-whole : goal.move_words-requires-clause-whole
 move_words-requires-clause-whole c =
-    let h = c.requires.moving in let x = c.in-Some.ensures.held c.args.addr c.args.size h.0 h.1 h.2 h.3 h.7 h.8 in
+    let h = c.requires.moving in let x = c.in-Some.ensures.held false c.args.addr c.args.size h.0 h.1 h.2 h.3 h.7 h.8 in
     x.held.half.new.whole
 
 pub move_words-requires-clause-inside : goal.move_words-requires-clause-inside
 move_words-requires-clause-inside c =
-    let h = c.requires.moving in let x = c.in-Some.ensures.held c.args.addr c.args.size h.0 h.1 h.2 h.3 h.7 h.8 in
+    let h = c.requires.moving in let x = c.in-Some.ensures.held false c.args.addr c.args.size h.0 h.1 h.2 h.3 h.7 h.8 in
     x.held.half.new.inside
 
 pub move_words-requires-clause-from : goal.move_words-requires-clause-from
 move_words-requires-clause-from c =
-    let h = c.requires.moving in let x = c.in-Some.ensures.held c.args.addr c.args.size h.0 h.1 h.2 h.3 h.7 h.8 in
+    let h = c.requires.moving in let x = c.in-Some.ensures.held false c.args.addr c.args.size h.0 h.1 h.2 h.3 h.7 h.8 in
     x.held.half.from
 
 pub move_words-requires-clause-to : goal.move_words-requires-clause-to
 move_words-requires-clause-to c =
-    let h = c.requires.moving in let x = c.in-Some.ensures.held c.args.addr c.args.size h.0 h.1 h.2 h.3 h.7 h.8 in
+    let h = c.requires.moving in let x = c.in-Some.ensures.held false c.args.addr c.args.size h.0 h.1 h.2 h.3 h.7 h.8 in
     x.held.half.to
 
 pub end_back-requires-clause-halfway : goal.end_back-requires-clause-halfway
@@ -41,7 +41,7 @@ end_back-requires-clause-halfway c =
     let h = c.requires.moving in
     let k = c.args.c.now in let t = c.hold_large.new.c in let u = c.move_words.new.c in
     let addr = c.args.addr in let size = c.args.size in let n = c.args.n in let b = c.in-Some.b in
-    let x = c.in-Some.ensures.held addr size h.0 h.1 h.2 h.3 h.7 h.8 in
+    let x = c.in-Some.ensures.held false addr size h.0 h.1 h.2 h.3 h.7 h.8 in
     let f = c.move_words.ensures in let list = moving addr size b n c.args.zero f.0 in
     let half = half_filled t u list f.2 (calls.Realloc addr n h.0) addr size b n h.1 x.place h.2 x.held.half in
     let back_out : is_out whats.Back t.out ≡ true = ap (is_out whats.Back) x.held.half.out_is ∙ h.5 in
@@ -51,7 +51,7 @@ pub returns-clause-moved : goal.returns-clause-moved
 returns-clause-moved c = λ flags p out zero_is v is_there back_held wback large_held wlarge.
     let k = c.args.c.now in let t = c.hold_large.new.c in let u = c.move_words.new.c in
     let addr = c.args.addr in let size = c.args.size in let n = c.args.n in let b = c.in-Some.b in
-    let x = c.in-Some.ensures.held addr size flags p out v large_held wlarge in
+    let x = c.in-Some.ensures.held false addr size flags p out v large_held wlarge in
     let f0 = c.move_words.ensures in
     let f : HasFilled t u (moving addr size b n flags.zero f0.0) = subst (λ (z : Bool). HasFilled t u (moving addr size b n z f0.0)) (sym zero_is) f0.2 in
     let list = moving addr size b n flags.zero f0.0 in

@@ -8,27 +8,28 @@ use Rattle.heap_model.specs.State.{Place, live_size}
 use Rattle.claim_rule.specs.Places.{data_count}
 use Rattle.vs_calls.specs.Blocks.{LiesWithin}
 use Rattle.move_parts.proofs.GapHeld.{gap_may, gap_held, later_limits}
+use Rattle.move_parts.proofs.Movers.{mover}
 use Rattle.move_parts.proofs.holds.hold_gap.Goals as goal
 
 pub hold_in_gap-b-requires-clause-room : goal.hold_in_gap-b-requires-clause-room
-hold_in_gap-b-requires-clause-room c = let e = ap length c.requires.moving.5.serving.prepared in omega (arith, e)
+hold_in_gap-b-requires-clause-room c = let h = c.requires.moving in let e = ap length (mover h.0 c.args.c.now h.1 h.2 c.args.n h.3 h.4 h.5 h.6).prepared in omega (arith, e)
 
 pub hold_in_gap-b-requires-clause-tells : goal.hold_in_gap-b-requires-clause-tells
-hold_in_gap-b-requires-clause-tells c = c.requires.moving.7.tells
+hold_in_gap-b-requires-clause-tells c = c.requires.moving.8.tells
 
 pub hold_in_gap-b-requires-clause-may : goal.hold_in_gap-b-requires-clause-may
 hold_in_gap-b-requires-clause-may c = λ run fits.
     let h = c.requires.moving in
-    gap_may c.args.c.now h.0 h.1 c.args.n h.2 h.3 h.4 h.5 c.check.ensures.stands h.6 c.args.vs.now h.7 c.requires.size c.requires.bucket run fits
+    gap_may c.args.c.now h.0 h.1 h.2 c.args.n h.3 h.4 h.5 h.6 c.check.ensures.stands h.7 c.args.vs.now h.8 c.requires.size c.requires.bucket run fits
 
 pub lies_within-requires : goal.lies_within-requires
 lies_within-requires c = ap is_some (ap (option_and_then (λ (p : Place). live_size p.status)) c.hold_in_gap-b.ensures.there)
 
 pub returns : goal.returns
-returns c = λ addr size flags p out v held w.
+returns c = λ taken addr size flags p out v held w.
     let k = c.args.c.now in let n = c.args.n in let x = c.hold_in_gap-b.ensures in
     let valid : AreValid k.opening.limits = subst AreValid (c.limits-limits.ensures.limits ∙ ap (λ (o : Opening). o.limits) (sym c.requires.opening)) c.limits-limits.ensures.valid in
     let lies = c.lies_within.ensures n (ap (option_and_then (λ (p : Place). live_size p.status)) x.there) in
-    let l = later_limits k addr size n flags p out v c.check.ensures.stands held c.args.vs.now w c.requires.size c.requires.bucket c.hold_in_gap-b.new.c c.hold_in_gap-b.new.vs c.hold_in_gap-b.result x in
+    let l = later_limits k taken addr size n flags p out v c.check.ensures.stands held c.args.vs.now w c.requires.size c.requires.bucket c.hold_in_gap-b.new.c c.hold_in_gap-b.new.vs c.hold_in_gap-b.result x in
     let to = subst (λ (a : ℕ). a / 8 + words_of n ≤ data_count k.opening.limits) x.at (subst (λ (y : Limits). LiesWithin y c.hold_in_gap-b.result n) l lies) in
-    gap_held k addr size n flags p out v c.check.ensures.stands held c.args.vs.now w c.requires.size c.requires.bucket x.run x.place valid c.check.ensures.legal c.hold_in_gap-b.new.vs c.hold_in_gap-b.result c.hold_in_gap-b.new.c x refl to
+    gap_held k taken addr size n flags p out v c.check.ensures.stands held c.args.vs.now w c.requires.size c.requires.bucket x.run x.place valid c.check.ensures.legal c.hold_in_gap-b.new.vs c.hold_in_gap-b.result c.hold_in_gap-b.new.c x refl to
