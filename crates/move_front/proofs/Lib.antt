@@ -1,7 +1,7 @@
-mod Kept
+pub mod Kept
 mod Activation
 mod Activated
-mod Shown
+pub mod Shown
 mod Started
 mod Gained
 mod Missing

@@ -38,7 +38,7 @@ fn hear_by<T: Stands, E: Carried>(top: &Table<T>, place: &mut Seating<T>, _prepa
 }
 
 /// One load.
-pub(crate) fn hear(heap: &Heap<State>, c: &mut Caller<State>)
+pub fn hear(heap: &Heap<State>, c: &mut Caller<State>)
     requires table { c.old.table ≡ heap.now.table }
     requires whole { c.old.whole ≡ true }
     ensures runs { Runs c.old c.new [] }

@@ -14,5 +14,6 @@ mod tried;
 mod vs;
 mod words;
 
+pub use hearing::hear;
 pub use stay::try_stay;
 pub use tried::Tried;

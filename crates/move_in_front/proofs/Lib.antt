@@ -1,0 +1,5 @@
+pub mod Lists
+pub mod Reading
+pub mod Beside
+pub mod Swapping
+pub mod Over

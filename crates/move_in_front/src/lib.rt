@@ -1,0 +1,8 @@
+//! A block of the front end that was taken moves to another one of it, under the locks of the variable-size layer and of the back end.
+//!
+//! The new block is held beside the old one; then the words are copied, the new block is given, and the old one's bit is cleared.
+#![tactic(auto)]
+
+mod moves;
+
+pub use moves::{InFront, move_taken_to_front};

@@ -1,0 +1,38 @@
+use Rattle.std.proofs.Common.{◌∙◌, refl, ap}
+use Rattle.heap_model.specs.declared.Call.TheVariants as calls
+use Rattle.heap_model.specs.declared.What.TheVariants as whats
+use Rattle.heap_model.specs.Shape.{moving}
+use Rattle.heap_gate.specs.Token.{is_out}
+use Rattle.move_to_front.proofs.Filled.{half_over_filled, vs_filled, back_filled, filled_changed}
+use Rattle.move_to_front.proofs.finish.front_vs.Goals as goal
+
+pub move_words-requires-clause-whole : goal.move_words-requires-clause-whole
+move_words-requires-clause-whole c = c.requires.halfway.4.whole
+
+pub move_words-requires-clause-inside : goal.move_words-requires-clause-inside
+move_words-requires-clause-inside c = c.requires.halfway.4.inside
+
+pub move_words-requires-clause-from : goal.move_words-requires-clause-from
+move_words-requires-clause-from c = c.requires.halfway.4.from
+
+pub move_words-requires-clause-to : goal.move_words-requires-clause-to
+move_words-requires-clause-to c = c.requires.halfway.4.to
+
+pub end_vs-requires-clause-table : goal.end_vs-requires-clause-table
+end_vs-requires-clause-table c = let f = c.move_words.ensures in (f.2.added.goes.table ∙ c.requires.table.0, f.2.added.goes.opening ∙ c.requires.table.1)
+
+pub end_vs-requires-clause-halfway : goal.end_vs-requires-clause-halfway
+end_vs-requires-clause-halfway c =
+    let x = c.requires.halfway in let t = c.args.c.now in let u = c.move_words.new.c in
+    let addr = c.args.addr in let size = c.args.size in let n = c.args.n in let b = c.args.b in
+    let f = c.move_words.ensures in let list = moving addr size b n c.args.zero f.0 in
+    (calls.Realloc addr n x.0, x.1, x.2, x.3, half_over_filled t u list f.2 (calls.Realloc addr n x.0) addr size b n x.1 x.2 x.3 x.4, x.5, x.8, vs_filled t u list f.2 c.check.ensures.stands (ap (is_out whats.Vs) x.4.out_is ∙ x.6) c.args.vs.now x.7, back_filled t u list f.2 c.check.ensures.stands (ap (is_out whats.Back) x.4.out_is ∙ x.8) c.args.back.now x.9)
+
+pub returns : goal.returns
+returns c = λ flags p q out h is_there vs_out w back_out wb.
+    let t = c.args.c.now in let u = c.move_words.new.c in let d = c.end_vs.new.c in
+    let addr = c.args.addr in let size = c.args.size in let n = c.args.n in let b = c.args.b in
+    let f = c.move_words.ensures in let list = moving addr size b n c.args.zero f.0 in
+    let half = half_over_filled t u list f.2 (calls.Realloc addr n flags) addr size b n p q out h in
+    let e = c.end_vs.ensures (calls.Realloc addr n flags) p q out half is_there back_out (vs_filled t u list f.2 c.check.ensures.stands (ap (is_out whats.Vs) h.out_is ∙ vs_out) c.args.vs.now w) (back_filled t u list f.2 c.check.ensures.stands (ap (is_out whats.Back) h.out_is ∙ back_out) c.args.back.now wb) in
+    record { changed = filled_changed t u list f.2 d addr size b n c.args.zero f.0 f.1 refl e.changed; tells = e.tells }

@@ -1,0 +1,55 @@
+use Rattle.std.proofs.Common.{◌≡◌, ◌∙◌, Bool, true, sym, ap, subst}
+use Rattle.heap_model.specs.declared.Call.TheVariants as calls
+use Rattle.heap_model.specs.declared.What.TheVariants as whats
+use Rattle.heap_model.specs.Shape.{moving}
+use Rattle.heap_gate.specs.Token.{is_out}
+use Rattle.move_parts.specs.Moves.{HasFilled}
+use Rattle.move_parts.proofs.Stays.{half_filled, will_vs, will_back}
+use Rattle.move_to_front.proofs.Over.{moves_late}
+use Rattle.move_to_front.proofs.late.late_vs.Goals as goal
+
+pub hold_settled-requires-clause-moving : goal.hold_settled-requires-clause-moving
+hold_settled-requires-clause-moving c = let h = c.requires.moving in (c.args.addr, c.args.size, h.0, h.1, h.2, h.3, h.5, h.6, h.7, h.8)
+
+pub move_words-requires-clause-table : goal.move_words-requires-clause-table
+move_words-requires-clause-table c =
+    let h = c.requires.moving in let x = c.in-Some.ensures.held c.args.addr c.args.size h.0 h.1 h.2 h.3 h.5 h.6 h.7 h.8 in
+    (x.held.made.added.goes.table ∙ c.requires.table.0, x.held.made.added.goes.opening ∙ c.requires.table.1)
+
+pub move_words-requires-clause-whole : goal.move_words-requires-clause-whole
+move_words-requires-clause-whole c = let h = c.requires.moving in let x = c.in-Some.ensures.held c.args.addr c.args.size h.0 h.1 h.2 h.3 h.5 h.6 h.7 h.8 in x.held.half.new.whole
+
+pub move_words-requires-clause-inside : goal.move_words-requires-clause-inside
+move_words-requires-clause-inside c = let h = c.requires.moving in let x = c.in-Some.ensures.held c.args.addr c.args.size h.0 h.1 h.2 h.3 h.5 h.6 h.7 h.8 in x.held.half.new.inside
+
+pub move_words-requires-clause-from : goal.move_words-requires-clause-from
+move_words-requires-clause-from c = let h = c.requires.moving in let x = c.in-Some.ensures.held c.args.addr c.args.size h.0 h.1 h.2 h.3 h.5 h.6 h.7 h.8 in x.held.half.from
+
+pub move_words-requires-clause-to : goal.move_words-requires-clause-to
+move_words-requires-clause-to c = let h = c.requires.moving in let x = c.in-Some.ensures.held c.args.addr c.args.size h.0 h.1 h.2 h.3 h.5 h.6 h.7 h.8 in x.held.half.to
+
+pub end_vs-requires : goal.end_vs-requires
+end_vs-requires c =
+    let h = c.requires.moving in let k = c.args.c.now in let t = c.hold_settled.new.c in let u = c.move_words.new.c in
+    let addr = c.args.addr in let size = c.args.size in let n = c.args.n in let b = c.in-Some.b in
+    let x = c.in-Some.ensures.held addr size h.0 h.1 h.2 h.3 h.5 h.6 h.7 h.8 in
+    let f = c.move_words.ensures in let list = moving addr size b n c.args.zero f.0 in
+    let half = half_filled t u list f.2 (calls.Realloc addr n h.0) addr size b n h.1 x.held.place h.2 x.held.half in
+    let vs_out : is_out whats.Vs t.out ≡ true = ap (is_out whats.Vs) x.held.half.out_is ∙ h.5 in
+    let back_out : is_out whats.Back t.out ≡ true = ap (is_out whats.Back) x.held.half.out_is ∙ h.7 in
+    record { halfway = (calls.Realloc addr n h.0, h.1, x.held.place, h.2, half, h.4, h.7, will_vs t u list f.2 c.check.ensures.stands x.held.place n vs_out c.hold_settled.new.vs x.held.vs, will_back t u list f.2 c.check.ensures.stands x.held.place n back_out c.hold_settled.new.back x.held.back) }
+
+pub returns-clause-moved : goal.returns-clause-moved
+returns-clause-moved c = λ flags p out zero_is v is_there vs_held wvs back_held wback.
+    let k = c.args.c.now in let t = c.hold_settled.new.c in let u = c.move_words.new.c in
+    let addr = c.args.addr in let size = c.args.size in let n = c.args.n in let b = c.in-Some.b in
+    let x = c.in-Some.ensures.held addr size flags p out v vs_held wvs back_held wback in
+    let f0 = c.move_words.ensures in
+    let f : HasFilled t u (moving addr size b n flags.zero f0.0) = subst (λ (z : Bool). HasFilled t u (moving addr size b n z f0.0)) (sym zero_is) f0.2 in
+    let list = moving addr size b n flags.zero f0.0 in
+    let half = half_filled t u list f (calls.Realloc addr n flags) addr size b n p x.held.place out x.held.half in
+    let vs_out : is_out whats.Vs t.out ≡ true = ap (is_out whats.Vs) x.held.half.out_is ∙ vs_held in
+    let back_out : is_out whats.Back t.out ≡ true = ap (is_out whats.Back) x.held.half.out_is ∙ back_held in
+    let e = c.end_vs.ensures (calls.Realloc addr n flags) p x.held.place out half is_there back_held
+    (will_vs t u list f c.check.ensures.stands x.held.place n vs_out c.hold_settled.new.vs x.held.vs) (will_back t u list f c.check.ensures.stands x.held.place n back_out c.hold_settled.new.back x.held.back) in
+    moves_late k t u c.end_vs.new.c addr size n flags p out b c.hold_settled.new.vs c.hold_settled.new.back f0.0 v x f0.1 f e.changed c.end_vs.new.vs c.end_vs.new.back (record { vs = e.vs; back = e.back })

@@ -1,0 +1,4 @@
+pub mod Moved
+pub mod Halfway
+pub mod Ends
+pub mod Late
