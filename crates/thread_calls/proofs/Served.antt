@@ -15,7 +15,7 @@ use Rattle.heap_now.specs.Locks.{IsLockedLess}
 use Rattle.heap_api.specs.AtLast.{GetsAtLast, IsMade}
 use Rattle.heap_api.specs.Locks.{IsLockedAtLast}
 use Rattle.heap_api.proofs.Made.{made_at_last}
-use Rattle.thread_calls.specs.Serving.{Goes, Serves}
+use Rattle.thread_calls.specs.Serving.{Goes, Serves, IsDepthBehind}
 
 abbrev made_goes : (a b : Token) (call : Call) (reply : Reply) → IsMade a b call reply → Goes a b
 made_goes a b call reply m = record {
@@ -143,3 +143,10 @@ module _ (a b : Token) where
 
 pub at_call : (a b : Token) (asked call : Call) (reply : Reply) → asked ≡ call → Serves a b call (reply ∷ []) → Serves a b asked (reply ∷ [])
 at_call a b asked call reply e x = subst (λ (k : Call). Serves a b k (reply ∷ [])) (sym e) x
+
+-- .. and how often the caller has the heap lock then
+pub at_depth : (x y : ℕ) (asked call : Call) → asked ≡ call → IsDepthBehind call x y → IsDepthBehind asked x y
+at_depth x y asked call e d = subst (λ (k : Call). IsDepthBehind k x y) (sym e) d
+
+pub kept_depth : (a b : Token) (call : Call) (reply : Reply) → GetsAtLast a b call reply → b.depth ≡ a.depth
+kept_depth a b call reply x = (made_at_last a b call reply x).follows.depth

@@ -1,5 +1,5 @@
 -- What a caller does for a call that its thread asks, whether it takes a step or is answered by the depth.
-use Rattle.std.specs.Prelude.{◌≡◌, Bool, true, false, List}
+use Rattle.std.specs.Prelude.{◌≡◌, ℕ, ◌+◌, ◌-◌, ◌≤◌, Bool, true, false, List, [], ◌∷◌, MatchBool}
 use mathlib.Core.List.{IsPrefix}
 use Rattle.heap_model.specs.declared.Call.{Call}
 use Rattle.heap_model.specs.declared.Call.TheVariants as calls
@@ -11,7 +11,7 @@ use Rattle.heap_model.specs.Served.{IsTried, IsServed, by_depth, depth_after}
 use Rattle.heap_gate.specs.Token.{Token, Always}
 use Rattle.heap_now.specs.Calls.{IsReady}
 
--- a call that threads can make so far
+-- a call that is one call of the heap, or none, and that threads can make so far: no reallocation
 abbrev pub IsServable : Call → Type 0
 IsServable (calls.Realloc addr n flags) = ⊥
 IsServable (calls.WalkNext from) = ⊥
@@ -22,6 +22,17 @@ IsServable call = Unit {0}
 abbrev pub is_last : Reply → Bool
 is_last (replies.Seen block) = false
 is_last _ = true
+
+-- these are all replies that a command gets: the last one comes once, behind all others
+abbrev pub EndsOnce : List Reply → Type 0
+EndsOnce [] = ⊥
+EndsOnce (r ∷ rs) = MatchBool (is_last r) (rs ≡ []) (EndsOnce rs)
+
+-- How often a caller has the heap lock behind a call: a lock takes it once more at most, and an unlock gives it back once, if the caller has it.
+abbrev pub IsDepthBehind : Call → (old new : ℕ) → Type 0
+IsDepthBehind calls.Lock old new = new ≤ old + 1
+IsDepthBehind calls.Unlock old new = new ≡ old - 1
+IsDepthBehind call old new = new ≡ old
 
 -- The caller's list goes on, and the caller is ready to call again. How often it has the heap lock is not said.
 pub record Goes (old new : Token) : Type 0 where
@@ -38,3 +49,8 @@ pub record Serves (old new : Token) (call : Call) (its : List Reply) : Type 0 wh
   pub goes : Goes old new
   pub depth : new.depth ≡ depth_after old.depth call its
   pub served : Always new (λ s. IsServed (λ asked reply xs. IsTried s old.number asked reply xs) (by_depth old.depth call) call its (moments s old.number (configuration_of s old.seen) goes.seen.0))
+
+-- A walk got these replies: a block for each call but the last one, which found none, or one refusal.
+pub record HasWalked (old new : Token) (its : List Reply) : Type 0 where
+  pub serves : Serves old new (calls.WalkNext 0) its
+  pub ends : EndsOnce its

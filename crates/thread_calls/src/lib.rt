@@ -5,5 +5,7 @@ mod lock_calls;
 mod serving;
 #[cfg(test)]
 mod tests;
+mod walking;
 
 pub use serving::serve;
+pub use walking::walk;

@@ -3,7 +3,7 @@ ghost use Rattle.std.specs.Prelude.{◌≡◌, ◌∷◌, [], true};
 ghost use Rattle.heap_model.specs.declared.Call.TheVariants as calls;
 ghost use Rattle.heap_now.specs.Calls.{IsReady};
 ghost use Rattle.heap_api.specs.AtLast.{GetsAtLast};
-ghost use Rattle.thread_calls.specs.Serving.{IsServable, Serves, is_last};
+ghost use Rattle.thread_calls.specs.Serving.{IsServable, IsDepthBehind, Serves, is_last};
 
 use crate::lock_calls::{give_back, take};
 use heap_api::{Caller, Heap, NoFit, NotLive, WordRefused, alloc, compact, free, get, put, size};
@@ -82,13 +82,15 @@ fn press<R: Wait>(rt: &R, heap: &Heap, c: &mut Caller) -> Reply
 }
 
 /// Makes a call, waiting while another caller is in the way, and answers its reply. A call that takes no step, as taking the heap lock
-/// again, is answered by the caller's depth. Reallocations and walks are no such calls yet.
+/// again, is answered by the caller's depth. A walk is several calls, and a
+/// reallocation is none that it makes yet.
 pub fn serve<R: Wait>(rt: &R, heap: &Heap, c: &mut Caller, call: Call) -> Reply
     requires table { (c.old.table ≡ heap.now.table) × (c.old.opening ≡ heap.now.opening) }
     requires ready { IsReady c.old }
     requires servable { IsServable call }
     ensures served { Serves c.old c.new call (result ∷ []) }
     ensures last { is_last result ≡ true }
+    ensures depth { IsDepthBehind call c.old.depth c.new.depth }
 {
     match call {
         Call::Alloc { n, flags } => place(rt, heap, c, n, flags),
