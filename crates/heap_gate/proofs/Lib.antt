@@ -1,3 +1,4 @@
+mod Bare
 pub mod Standing
 pub mod Tokens
 pub mod Preparation

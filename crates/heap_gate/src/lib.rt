@@ -11,6 +11,7 @@ mod entries;
 mod heap;
 mod heap_lock;
 mod locks;
+mod noted;
 mod root;
 mod seats;
 mod steps;
@@ -21,6 +22,7 @@ pub use entries::{begin, prepare, rest, settle};
 pub use heap::Heap;
 pub use heap_lock::{lock_gate, unlock_gate};
 pub use locks::{give_lock, give_lock_denying, take_lock};
+pub use noted::Noted;
 pub use root::{Root, close_table, join, make_caller, meet, open};
 pub use steps::{Prepared, Slip};
 

@@ -12,8 +12,8 @@ ghost use Rattle.heap_gate.specs.Roots.{AreTheirs, HaveMet, HasJoined, IsAtRest,
 use crate::caller::Caller;
 use crate::closed::{Closed, copied, held};
 use crate::heap::Heap;
+use crate::noted::Noted;
 use crate::seats::{agree, count, deal, hear, relayed, take_in, tell};
-use arrayvec::ArrayVec;
 use atomic_table::Table;
 use heap_model::{Limits, Opening, OutOfMemory, Stands, Words};
 use rand_pcg::Pcg32;
@@ -86,10 +86,9 @@ pub fn open<T: Stands + Drop>(
 {
     let opening = Opening { limits, seed };
     let count = words_of(&limits);
-    let words = vec![in alloc; 0; count]?;
     let closing = Words::new(alloc, count)?;
     let slots = slots_of(alloc, vs, back, large)?;
-    let Ok((table, place)) = Table::new(alloc, words.as_slice(), slots, &opening) else {
+    let Ok((table, place)) = Table::new(alloc, closing.as_slice(), slots, &opening) else {
         return Err(OutOfMemory);
     };
     let heap = Heap {
@@ -123,7 +122,7 @@ pub fn make_caller<T: Stands>(
         place,
         number,
         slot,
-        prepared: ArrayVec::new(),
+        prepared: Noted::new(),
         pending: false,
         call: None,
         fresh: false,

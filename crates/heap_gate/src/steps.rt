@@ -16,7 +16,7 @@ ghost use Rattle.claim_rule.specs.Home.{HasSlot, slot_of, Tells};
 ghost use Rattle.lock_steps.specs.Locks.{IsPaid, MayTake, MayGiveBack, took};
 ghost use Rattle.claim_rule.specs.Places.{lock_at};
 
-use arrayvec::ArrayVec;
+use crate::noted::Noted;
 use claim_rule::{Carried, Enters, GATE, Leaves, Locks, Looks, MADE, Unlocks};
 use heap_model::{Act, Entry, Stands, What};
 use lock_steps::steps::{give_as, take_as};
@@ -24,8 +24,8 @@ use look_steps::steps::{deny_give_as, deny_leave_as};
 use std::marker::Model;
 use step_parts::{Guards, Seating, Table, Target};
 
-/// The entries that a caller has prepared.
-pub type Prepared = ArrayVec<Slip, 16>;
+/// The entries that a caller has prepared: for the proof alone, so that they cost nothing.
+pub type Prepared = Noted<Slip>;
 
 /// A prepared entry.
 #[derive(Clone, Copy)]

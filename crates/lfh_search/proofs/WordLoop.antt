@@ -7,7 +7,6 @@ use Rattle.heap_model.specs.Bits.{pick}
 use Rattle.heap_model.specs.CallState.{Search}
 use Rattle.heap_soundness.specs.Sound.{IsOneOf}
 use Rattle.search_laws.specs.Reading.{word_behind}
-use Rattle.std.specs.Prelude.{slice_index}
 use Rattle.lfh_buckets.specs.Blocks.{IsBucket}
 use Rattle.lfh_buckets.proofs.BlockLemmas.{few_blocks}
 use Rattle.block_steps.specs.Searches.{MaySee}
@@ -164,5 +163,5 @@ beaten old c course f head word k lost so_far l m z =
     record { its = z.its; are = z.are; went = z.went; search = reading f head k 8; searching = z.all e; eight = refl; picked = refl; count = z.count ∙ e }
 
 -- the block that the draw picks, by the course
-pub pick_is : (course : Course) (word bits : ℕ) (o x : Option ℕ) → IsCourse course → word < 4 → o ≡ pick bits (slice_index course.valid word) course.bit → o ≡ x → pick bits (valid_bits course.bucket word) (course.draw.value % 64) ≡ x
-pick_is course word bits o x h l e q = sym (e ∙ (λ j. pick bits (h.valid word l j) (h.bit j))) ∙ q
+pub pick_is : (course : Course) (word bits valid : ℕ) (o x : Option ℕ) → IsCourse course → valid ≡ valid_bits course.bucket word → o ≡ pick bits valid course.bit → o ≡ x → pick bits (valid_bits course.bucket word) (course.draw.value % 64) ≡ x
+pick_is course word bits valid o x h v e q = sym (e ∙ (λ j. pick bits (v j) (h.bit j))) ∙ q

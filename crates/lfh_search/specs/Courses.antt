@@ -1,6 +1,6 @@
 -- What a bucket and a draw fix of a search.
-use Rattle.std.specs.Prelude.{◌≡◌, ℕ, ◌/◌, ◌%◌, ◌<◌, slice_index}
-use Rattle.heap_model.specs.Buckets.{words_in_use, valid_bits}
+use Rattle.std.specs.Prelude.{◌≡◌, ℕ, ◌/◌, ◌%◌}
+use Rattle.heap_model.specs.Buckets.{words_in_use, block_count}
 use Rattle.lfh_buckets.specs.Blocks.{IsBucket}
 use Rattle.lfh_search.specs.declared.course.Course.{Course}
 
@@ -9,4 +9,4 @@ pub record IsCourse (c : Course) : Type 0 where
   pub bit : c.bit ≡ c.draw.value % 64
   pub first : c.first ≡ c.draw.value / 64 % words_in_use c.bucket
   pub words : c.words ≡ words_in_use c.bucket
-  pub valid : (w : ℕ) → w < 4 → slice_index c.valid w ≡ valid_bits c.bucket w
+  pub blocks : c.blocks ≡ block_count c.bucket

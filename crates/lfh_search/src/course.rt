@@ -1,6 +1,6 @@
 //! What a bucket and a draw fix of a search.
 ghost use Rattle.std.specs.Prelude.{◌≡◌, ◌+◌, ◌-◌, ◌*◌, ◌%◌, ◌^◌, ◌<◌, ◌==◌, min, if◌then◌else◌};
-ghost use Rattle.heap_model.specs.Buckets.{block_count};
+ghost use Rattle.heap_model.specs.Buckets.{block_count, valid_bits};
 ghost use Rattle.lfh_buckets.specs.Blocks.{IsBucket};
 ghost use Rattle.lfh_search.specs.Courses.{IsCourse};
 
@@ -17,7 +17,7 @@ const COUNTS: [u8; 128] = [
     21, 20, 19, 18, 18, 17, 17, 16, 15,
 ];
 
-/// Where the searches for a bucket by a draw read first, and which bits count: worked out once.
+/// Where the searches for a bucket by a draw read first, and how many blocks count: worked out once.
 #[derive(Clone, Copy, Debug)]
 pub struct Course {
     pub bucket: u8,
@@ -27,8 +27,8 @@ pub struct Course {
     /// The word of a subsegment that is read first, and how many are in use.
     pub first: u32,
     pub words: u32,
-    /// The bits of each word that stand for blocks.
-    pub valid: [u64; 4],
+    /// How many blocks a subsegment of the bucket has.
+    pub blocks: u32,
 }
 
 impl Course {
@@ -47,13 +47,17 @@ impl Course {
             bit: draw.value % WORD_BITS,
             first: cyclic(draw.value / WORD_BITS, words),
             words,
-            valid: [
-                bits_of(blocks, 0),
-                bits_of(blocks, 1),
-                bits_of(blocks, 2),
-                bits_of(blocks, 3),
-            ],
+            blocks,
         }
+    }
+
+    /// The bits of a word of a subsegment that stand for blocks.
+    pub fn valid(&self, word: u32) -> u64
+        requires course { IsCourse self.now }
+        requires word { word < 4 }
+        ensures { result ≡ valid_bits self.now.bucket word }
+    {
+        bits_of(self.blocks, word)
     }
 }
 

@@ -46,7 +46,7 @@ pub fn read_word<T: Stands>(
     let mut so_far = lost;
     while so_far < LOSSES {
         let bits = see(heap, c, head, word);
-        let Some(bit) = pick(bits, course.valid[word as usize], course.bit) else {
+        let Some(bit) = pick(bits, course.valid(word), course.bit) else {
             return Reading::Dry { lost: so_far };
         };
         let index = (WORD_BITS * word + u32::from(bit)) as u16;
