@@ -1,12 +1,14 @@
 -- Parts of a call behind a look-up, of which no shape shows anything.
-use Rattle.std.proofs.Common.{◌≡◌, ℕ, ◌+◌, Bool, true, false, List, [], ◌∷◌, ◌++◌, Option, Some, None, refl, ◌∙◌, subst}
+use Rattle.std.proofs.Common.{◌≡◌, ℕ, ◌+◌, Bool, true, false, not, List, [], ◌∷◌, ◌++◌, Option, Some, None, refl, ◌∙◌, subst}
 use Rattle.std.specs.Prelude.{Result, Ok, Err, OnOk, IfOk, IfErr}
+use Rattle.std.specs.List.{list_all}
+use Rattle.std.proofs.lemmas.Bool.{and_from, and_parts}
 use Rattle.heap_model.specs.declared.Act.{Act}
 use Rattle.heap_model.specs.declared.Act.TheVariants as acts
 use Rattle.heap_model.specs.declared.Busy.{Busy}
 use Rattle.heap_model.specs.declared.Call.{Call}
 use Rattle.heap_model.specs.declared.Opening.{Opening}
-use Rattle.heap_model.specs.Shape.{shape_of}
+use Rattle.heap_model.specs.Shape.{begins_move, shape_of}
 use Rattle.heap_gate.specs.Token.{Token}
 use Rattle.call_parts.specs.Calls.{Makes}
 use Rattle.call_parts.specs.Entries.{HasAdded}
@@ -18,16 +20,26 @@ use Rattle.address_calls.specs.Answers.{MayGuard, MeetsOn}
 use Rattle.address_calls.specs.Finds.{Looks}
 
 pub looks_none : (c : Token) → Looks c c
-looks_none c = record { rest = []; added = added_none c; no_begin = refl; shape_is = refl }
+looks_none c = record { rest = []; added = added_none c; no_begin = refl; no_move = refl; shape_is = refl }
 
-pub looks_by : (a b : Token) (rest : List Act) → HasAdded a b rest → none_begins rest ≡ true → shape_of rest ≡ [] → Looks a b
-looks_by a b rest x nb sh = record { rest = rest; added = x; no_begin = nb; shape_is = sh }
+abbrev pub none_moves : List Act → Bool
+none_moves rest = list_all (λ act. not (begins_move act)) rest
+
+pub none_moves-append : (xs ys : List Act) → none_moves xs ≡ true → none_moves ys ≡ true → none_moves (xs ++ ys) ≡ true
+none_moves-append [] ys h k = k
+none_moves-append (x ∷ xs) ys h k =
+    let p = and_parts (not (begins_move x)) (none_moves xs) h in
+    and_from (not (begins_move x)) (none_moves (xs ++ ys)) p.0 (none_moves-append xs ys p.1 k)
+
+pub looks_by : (a b : Token) (rest : List Act) → HasAdded a b rest → none_begins rest ≡ true → none_moves rest ≡ true → shape_of rest ≡ [] → Looks a b
+looks_by a b rest x nb nm sh = record { rest = rest; added = x; no_begin = nb; no_move = nm; shape_is = sh }
 
 pub looks_then : (a b c : Token) → Looks a b → Looks b c → Looks a c
 looks_then a b c x y = record {
   rest = x.rest ++ y.rest;
   added = added_then a b c x.rest y.rest x.added y.added;
   no_begin = none_begins-append x.rest y.rest x.no_begin y.no_begin;
+  no_move = none_moves-append x.rest y.rest x.no_move y.no_move;
   shape_is = shape-append x.rest y.rest ∙ (λ j. x.shape_is j ++ y.shape_is j);
 }
 

@@ -1,9 +1,9 @@
 pub mod TaggedLists
 mod TagRead
-mod Behind
+pub mod Behind
 pub mod States
 mod Hearing
-mod Words
+pub mod Words
 mod Parts
 mod Dropped
 mod AtOnce

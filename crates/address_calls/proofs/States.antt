@@ -125,10 +125,10 @@ serving_given a b what call out v x =
 ---- What it has looked at
 
 pub looks_taken : {T : Type 0} (tells : T → LayerState) (a b : Token) (what : What) (state : T) → owed_with what [] ≡ [] → a.owes ≡ [] → HasTaken tells a b what state → Looks a b
-looks_taken tells a b what state e o x = looks_by a b (acts.TakeLock what ∷ []) (added_taken tells a b what state (ap (owed_with what) o ∙ (e ∙ sym o)) x) refl refl
+looks_taken tells a b what state e o x = looks_by a b (acts.TakeLock what ∷ []) (added_taken tells a b what state (ap (owed_with what) o ∙ (e ∙ sym o)) x) refl refl refl
 
 pub looks_tagged : (a b : Token) (page : ℕ) (told : Option Tag) → HasTag a b page told → Looks a b
-looks_tagged a b page told x = looks_by a b [] (added_runs a b [] x.runs x.stands) refl refl
+looks_tagged a b page told x = looks_by a b [] (added_runs a b [] x.runs x.stands) refl refl refl
 
 ---- What the states of the layers tell then
 
@@ -290,7 +290,7 @@ module _ (a : Token) (vs : VsKept) (back : Kept) (h : HasBoth a vs back) (st : I
           added_then a b d (acts.GiveLock whats.Back ∷ []) (acts.GiveLock whats.Vs ∷ []) one.added (ended_given b d whats.Vs [] (acts.GiveLock whats.Vs ∷ []) k one.out_is one.free).added
 
       pub gone_out : Looks a d
-      gone_out = looks_by a d (acts.GiveLock whats.Back ∷ acts.GiveLock whats.Vs ∷ []) both_added refl refl
+      gone_out = looks_by a d (acts.GiveLock whats.Back ∷ acts.GiveLock whats.Vs ∷ []) both_added refl refl refl
 
       pub front_out : IsStanding b → IsStanding d → (addr : ℕ) (tag : Tag) → addr / 4096 < 256 * a.opening.limits.segments → IsBucket tag.bucket → Always a (λ s. MayAsk (now s a) a.number tag.head tag.bucket tag.slot addr) → IsFront d addr tag
       front_out sb sd addr tag below bucket may =

@@ -108,7 +108,7 @@ module _ (s : Setting) (m : Configuration) (w : Keeps s m) where
   all_sizes : AllByRecursion (λ p. HasSoundSize p p.status) (all_places m.state)
   all_sizes = of_all s m w (λ p. HasSoundSize p p.status) w.sizes.lfh w.sizes.vs w.sizes.back w.sizes.large
 
-  words_in : (p : Place) (a size : ℕ) → IsOneOf p (all_places m.state) → address p ≡ a → p.status ≡ Live size → a / 8 + words_of size ≤ data_count s.limits
+  pub words_in : (p : Place) (a size : ℕ) → IsOneOf p (all_places m.state) → address p ≡ a → p.status ≡ Live size → a / 8 + words_of size ≤ data_count s.limits
   words_in p a size i at live =
       let h = all_at HasAddress p (all_places m.state) (all_addresses s m w) i in
       let end = all_at EndsBelow p (all_places m.state) all_end i in

@@ -8,7 +8,7 @@ use Rattle.heap_model.specs.declared.Limits.{Limits}
 use Rattle.heap_model.specs.declared.What.TheVariants as whats
 use Rattle.heap_model.specs.Backend.{in_span}
 use Rattle.heap_model.specs.Legal.{is_begin}
-use Rattle.heap_model.specs.Shape.{shape_of}
+use Rattle.heap_model.specs.Shape.{begins_move, shape_of}
 use Rattle.claim_rule.specs.Shown.{lfh_spans}
 use Rattle.lfh_buckets.specs.Blocks.{IsBucket}
 use Rattle.block_steps.specs.Blocks.{MayAsk}
@@ -24,11 +24,12 @@ use Rattle.vs_calls.specs.Blocks.{HasVs, size_at}
 use Rattle.address_calls.specs.declared.look.Found.{Found}
 use Rattle.address_calls.specs.declared.look.Found.TheVariants as founds
 
--- Of what a caller has done since, no shape shows anything: it has read tags, and taken locks or given them back.
+-- Of what a caller has done since, no shape shows anything, and it begins no move of a block: it has read tags, and taken locks or given them back.
 pub record Looks (old new : Token) : Type 0 where
   pub rest : List Act
   pub added : HasAdded old new rest
   pub no_begin : list_all (λ act. not (is_begin act)) rest ≡ true
+  pub no_move : list_all (λ act. not (begins_move act)) rest ≡ true
   pub shape_is : shape_of rest ≡ []
 
 ---- Where an address lies

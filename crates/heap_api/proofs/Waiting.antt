@@ -3,6 +3,7 @@ use Rattle.std.proofs.Common.{◌≡◌, ◌≢◌, ◌⊎◌, ℕ, ◌+◌, Lis
 use Rattle.heap_model.specs.declared.Busy.{Busy}
 use Rattle.heap_model.specs.declared.Call.{Call}
 use Rattle.heap_model.specs.declared.Call.TheVariants as calls
+use Rattle.heap_model.specs.declared.Flags.{Flags}
 use Rattle.heap_model.specs.declared.LockNo.TheVariants as lock_nos
 use Rattle.heap_model.specs.declared.Opening.{Opening}
 use Rattle.heap_model.specs.declared.Reply.{Reply}
@@ -12,6 +13,7 @@ use Rattle.heap_model.specs.Shape.{Replied, WasBusy}
 use Rattle.heap_gate.specs.Token.{Token}
 use Rattle.heap_gate.specs.Calls.{with_depth}
 use Rattle.address_calls.specs.Answers.{MayGuard}
+use Rattle.heap_now.specs.Reallocs.{MayTry}
 use Rattle.compact_calls.specs.Compact.{HasNumber, IsRefused}
 use Rattle.heap_now.specs.Calls.{IsReady, Gets, EndsWith, MayTake}
 use Rattle.heap_now.specs.Locks.{IsLockedMore, IsNotLocked}
@@ -46,12 +48,12 @@ waits_more a b c call w x = record {
 }
 
 -- .. and the last
-pub waits_end : (a b c : Token) (call : Call) (reply : Reply) → Waits a b call → Gets b c call (Replied reply) → GetsAtLast a c call reply
+abbrev pub waits_end : (a b c : Token) (call : Call) (reply : Reply) → Waits a b call → Gets b c call (Replied reply) → GetsAtLast a c call reply
 waits_end a b c call reply w x = record { tries = w.tries; before = b; turned = w.turned; gets = x }
 
 ---- Turned back
 
-pub turned_alloc : (b c : Token) (n : ℕ) (flags : Rattle.heap_model.specs.declared.Flags.Flags) (busy : Busy) → EndsWith (MayTake n) b c (calls.Alloc n flags) (WasBusy busy) → IsTurnedBack b c (calls.Alloc n flags)
+pub turned_alloc : (b c : Token) (n : ℕ) (flags : Flags) (busy : Busy) → EndsWith (MayTake n) b c (calls.Alloc n flags) (WasBusy busy) → IsTurnedBack b c (calls.Alloc n flags)
 turned_alloc b c n flags busy x = record { busy = busy; gets = x.0.gets; why = (x.0.cause, x.1) }
 
 module _ (o : Opening) (b c : Token) (e : b.opening ≡ o) (addr : ℕ) (busy : Busy) where
@@ -69,6 +71,10 @@ module _ (o : Opening) (b c : Token) (e : b.opening ≡ o) (addr : ℕ) (busy : 
 
   pub turned_put : (index value : ℕ) → EndsWith (MayGuard o.limits addr) b c (calls.Put addr index value) (WasBusy busy) → IsTurnedBack b c (calls.Put addr index value)
   turned_put index value x = record { busy = busy; gets = x.0.gets; why = (x.0.cause, its_lock x.1) }
+
+  pub turned_realloc : (n : ℕ) (flags : Flags) → EndsWith (MayTry o.limits addr n) b c (calls.Realloc addr n flags) (WasBusy busy) → IsTurnedBack b c (calls.Realloc addr n flags)
+  turned_realloc n flags x =
+      record { busy = busy; gets = x.0.gets; why = (x.0.cause, subst (λ (p : Opening). (busy.what ≡ whats.Gate) ⊎ MayTry p.limits addr n busy.what) (sym e) x.1) }
 
 ---- Compaction
 

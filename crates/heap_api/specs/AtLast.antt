@@ -18,6 +18,7 @@ use Rattle.heap_gate.specs.Token.{Token, Always}
 use Rattle.call_parts.specs.Calls.{IsCause}
 use Rattle.address_calls.specs.Answers.{MayGuard}
 use Rattle.heap_now.specs.Calls.{IsReady, Gets, MayTake}
+use Rattle.heap_now.specs.Reallocs.{MayTry}
 use Rattle.heap_api.specs.declared.WordRefused.{WordRefused}
 use Rattle.heap_api.specs.declared.WordRefused.TheVariants as word_refusals
 
@@ -26,6 +27,7 @@ use Rattle.heap_api.specs.declared.WordRefused.TheVariants as word_refusals
 -- the call may need this lock
 abbrev pub MayNeed : Limits → Call → What → Type 0
 MayNeed l (calls.Alloc n flags) what = MayTake n what
+MayNeed l (calls.Realloc addr n flags) what = MayTry l addr n what
 MayNeed l (calls.Free addr) what = MayGuard l addr what
 MayNeed l (calls.Size addr) what = MayGuard l addr what
 MayNeed l (calls.Get addr index) what = MayGuard l addr what

@@ -1,2 +1,3 @@
 pub mod AtLast
 pub mod Locks
+pub mod Reallocs

@@ -6,6 +6,7 @@
 
 mod blocks;
 mod locks;
+mod reallocs;
 #[cfg(test)]
 mod tests;
 mod words;
@@ -13,6 +14,7 @@ mod words;
 pub use blocks::{alloc, free, size};
 pub use heap_now::{Caller, Heap, Root, open_heap, unlock_now as unlock};
 pub use locks::{compact, lock};
+pub use reallocs::realloc;
 pub use words::{get, put};
 
 /// No range fits the block.
@@ -26,6 +28,14 @@ pub struct NotLive;
 /// The caller has taken the heap lock 65,535 times.
 #[derive(Clone, Copy, Debug, PartialEq, Eq)]
 pub struct Depth;
+
+/// Why a block does not get another size. It is as it was then. No room in place is said only where the block may not move.
+#[derive(Clone, Copy, Debug, PartialEq, Eq)]
+pub enum ReRefused {
+    NotLive,
+    NoFit,
+    NoRoomInPlace,
+}
 
 /// Why a word of a block is not read or written. `Past` tells how many words of 8 bytes the block has.
 #[derive(Clone, Copy, Debug, PartialEq, Eq)]

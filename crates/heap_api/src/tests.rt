@@ -81,6 +81,20 @@ fn write<R: Wait>(
     put(rt, heap, c, addr, index, value)
 }
 
+fn change<R: Wait>(
+    rt: &R,
+    heap: &Heap,
+    c: &mut Caller,
+    addr: u64,
+    n: u64,
+    flags: Flags,
+) -> Result<u64, ReRefused>
+    requires { IsCallerOf heap.now c.old }
+    ensures { IsCallerOf heap.now c.new }
+{
+    realloc(rt, heap, c, addr, n, flags)
+}
+
 fn press<R: Wait>(rt: &R, heap: &Heap, c: &mut Caller) -> u64
     requires { IsCallerOf heap.now c.old }
     ensures { IsCallerOf heap.now c.new }
@@ -132,6 +146,38 @@ fn calls_are_answered(rt: HostRuntime) -> Result<(), Fail> {
         Err(WordRefused::NotLive)
     );
     assert_eq!(rt; place(&rt, &heap, &mut c, 2_000_000), Err(NoFit));
+    Ok(())
+}
+
+// From the back end to the large area and to the variable-size layer: 600,000 bytes are 147 pages, and 2,000,000 more than the heap has.
+#[test]
+fn a_block_moves_with_its_words(rt: HostRuntime) -> Result<(), Fail> {
+    let (heap, _root, mut c) = alone(rt.alloc())?;
+    let fixed = Flags {
+        zero: false,
+        in_place: true,
+    };
+    assert_eq!(rt; place(&rt, &heap, &mut c, 520_192), Ok(8192));
+    assert_eq!(rt; write(&rt, &heap, &mut c, 8192, 0, 5), Ok(()));
+    assert_eq!(rt;
+        change(&rt, &heap, &mut c, 8192, 600_000, fixed),
+        Err(ReRefused::NoRoomInPlace)
+    );
+    assert_eq!(rt;
+        change(&rt, &heap, &mut c, 8192, 2_000_000, PLAIN),
+        Err(ReRefused::NoFit)
+    );
+    assert_eq!(rt;
+        change(&rt, &heap, &mut c, 8192, 600_000, PLAIN),
+        Ok(1_048_576)
+    );
+    assert_eq!(rt; read(&rt, &heap, &mut c, 1_048_576, 0), Ok(5));
+    assert_eq!(rt; change(&rt, &heap, &mut c, 1_048_576, 100, PLAIN), Ok(8256));
+    assert_eq!(rt; read(&rt, &heap, &mut c, 8256, 0), Ok(5));
+    assert_eq!(rt;
+        change(&rt, &heap, &mut c, 1_048_576, 100, PLAIN),
+        Err(ReRefused::NotLive)
+    );
     Ok(())
 }
 

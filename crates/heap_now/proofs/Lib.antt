@@ -7,3 +7,4 @@ pub mod Locking
 pub mod TaggedCalls
 pub mod Callers
 pub mod Walks
+pub mod Reallocated

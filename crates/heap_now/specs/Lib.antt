@@ -3,3 +3,4 @@ pub mod Words
 pub mod Locks
 pub mod Tagged
 pub mod Callers
+pub mod Reallocs

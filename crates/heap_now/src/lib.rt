@@ -10,6 +10,7 @@ mod alloc;
 mod frame;
 mod locks;
 mod open;
+mod reallocs;
 #[cfg(test)]
 mod tests;
 mod words;
@@ -20,6 +21,7 @@ pub use call_parts::State;
 pub use compact_calls::compact as compact_now;
 pub use locks::{lock_now, unlock_now};
 pub use open::open_heap;
+pub use reallocs::realloc_now;
 pub use walk_calls::walk_next;
 
 /// A heap that threads share.

@@ -4,6 +4,7 @@ ghost use Rattle.heap_now.specs.Callers.{IsFreeCaller, AreTwo};
 mod edges;
 mod full;
 mod held;
+mod reallocs;
 mod sharing;
 mod threads;
 mod walks;

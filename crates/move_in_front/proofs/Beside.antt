@@ -1,30 +1,29 @@
 -- A new block of the front end in hand, in front of the one that was taken.
-use Rattle.std.proofs.Common.{◌≡◌, ◌⊎◌, ℕ, ◌+◌, ◌*◌, ◌/◌, ◌%◌, ◌<◌, ◌≤◌, ◌&&◌, true, List, [], ◌∷◌, ◌++◌, Some, refl, sym, ap, ◌∙◌, subst, arith, eq-eqb, inl, inr}
+use Rattle.std.proofs.Common.{◌≡◌, ◌⊎◌, ℕ, ◌+◌, ◌*◌, ◌/◌, ◌%◌, ◌<◌, ◌≤◌, ◌&&◌, true, false, List, [], ◌∷◌, ◌++◌, Some, refl, sym, ap, ◌∙◌, subst, arith, eq-eqb, inl, inr}
 use Rattle.std.specs.Prelude.{is_some, nat_le}
 use Rattle.std.specs.List.{find}
-use Rattle.std.proofs.lemmas.Bool.{ne_eqb, or_right}
+use Rattle.std.proofs.lemmas.Bool.{ne_eqb}
 use Rattle.std.proofs.lemmas.List.{append-nil}
 use Rattle.heap_model.specs.declared.Act.{Act}
 use Rattle.heap_model.specs.declared.Call.TheVariants as calls
 use Rattle.heap_model.specs.declared.Entry.{Entry}
 use Rattle.heap_model.specs.declared.Flags.{Flags}
+use Rattle.heap_model.specs.declared.Layer.{Layer}
 use Rattle.heap_model.specs.declared.Layer.TheVariants as layers
 use Rattle.heap_model.specs.declared.Opening.{Opening}
 use Rattle.heap_model.specs.declared.What.TheVariants as whats
-use Rattle.heap_model.specs.Agreement.{AgreesFor, holds_old_block, moves_exclusive}
+use Rattle.heap_model.specs.Agreement.{AgreesFor}
 use Rattle.heap_model.specs.Buckets.{bucket_of, block_size, block_address}
 use Rattle.heap_model.specs.CallState.{Configuration, CallState, caller_view}
 use Rattle.heap_model.specs.History.{configuration_of, configuration_after}
-use Rattle.heap_model.specs.Legal.{cannot_be_served, may_touch}
-use Rattle.heap_model.specs.declared.Call.{Call}
-use Rattle.heap_model.specs.Stay.{for_some}
+use Rattle.heap_model.specs.Legal.{cannot_be_served}
 use Rattle.heap_model.specs.Limits.{AreValid}
 use Rattle.heap_model.specs.Search.{request_of}
-use Rattle.heap_model.specs.State.{Setting, State, Place, address, has_address, in_hand, hands, holds, guarded, exclusive_places}
+use Rattle.heap_model.specs.State.{Setting, State, Place, address, has_address, in_hand, hands, holds, places_of, guarded, exclusive_places}
 use Rattle.heap_model.proofs.Stable.{same_hands, find-gate}
 use Rattle.heap_soundness.proofs.Whole.{all_disjoint}
-use Rattle.claim_rule.specs.Entries.{IsSettingOf, IsLegalWith, have_slots}
-use Rattle.search_laws.proofs.Blocks.{bucket_fits}
+use Rattle.claim_rule.specs.Entries.{IsSettingOf, IsLegalWith, have_slots, is_by}
+use Rattle.search_laws.proofs.Blocks.{bucket_fits, whole_granules}
 use Rattle.lfh_buckets.proofs.BlockLemmas.{size_in_granules}
 use Rattle.step_parts.specs.InHand.{HasBlock}
 use Rattle.backend_fit.specs.Kept.{Kept}
@@ -34,19 +33,27 @@ use Rattle.heap_gate.specs.Calls.{Runs, Stands, stance}
 use Rattle.lfh_claims.specs.declared.tag.Tag.{Tag}
 use Rattle.lfh_claims.specs.Moves.{block_place}
 use Rattle.lfh_claims.specs.Search.{own_slot}
-use Rattle.lfh_claims.specs.Stays.{IsInside}
+use Rattle.lfh_claims.specs.Stays.{IsInside, HasRead}
 use Rattle.lfh_search.specs.Results.{place}
+use Rattle.lfh_search.specs.Under.{CannotBeServed}
 use Rattle.call_parts.specs.Calls.{GoesOn}
-use Rattle.call_parts.proofs.Joining.{goes_does, goes_then, setting_before}
+use Rattle.call_parts.specs.Entries.{holding}
+use Rattle.call_parts.proofs.Joining.{goes_does, goes_then, called_since, setting_before}
 use Rattle.small_calls.proofs.Bounds.{block_within}
 use Rattle.small_calls.proofs.Found.{is_bucket}
 use Rattle.move_front.specs.Front.{IsBesideFront, IsToPlace, HasFrontBlock, HasNoFrontBlock}
 use Rattle.move_front.proofs.Movers.{mover_places}
+use Rattle.move_parts.specs.Moves.{IsTaken}
 use Rattle.move_parts.proofs.Known.{home, home_is, keeps_behind}
+use Rattle.move_parts.proofs.Movers.{mover, holds_mine}
 use Rattle.move_to_front.specs.Halfway.{HoldsFrontPlace}
 use Rattle.move_to_front.proofs.Tells.{as_moves, vs_loaded, back_loaded}
 use Rattle.move_to_front.proofs.Unserved.{still_cannot}
-use Rattle.move_in_front.specs.Taken.{HasTaken, IsUnserved, taken_place}
+use Rattle.move_taken.specs.Holds.{taken_place, HoldsTaken}
+use Rattle.move_taken.proofs.Before.{still_unplaced}
+use Rattle.move_taken.proofs.Blocks.{positive}
+use Rattle.move_taken.proofs.Moving.{bucket_read, taken_moving}
+use Rattle.move_in_front.specs.Taken.{HasTaken, IsUnserved}
 use Rattle.move_in_front.specs.Halfway.{HoldsTwo, HasNewBeside}
 use Rattle.move_in_front.proofs.Lists.{disjoint_front, apart_in, front_only}
 use Rattle.move_in_front.proofs.Reading.{reads_on, stay_two, stay_quiet, stay_came}
@@ -92,32 +99,38 @@ module _ (a : Token) (tag : Tag) (addr size n : ℕ) (flags : Flags) (out : List
   abbrev pub p : Place
   p = taken_place tag.bucket addr a.number
 
-  granules : (block_size tag.bucket % 16 ≡ 0) × (16 ≤ block_size tag.bucket)
-  granules = size_in_granules tag.bucket v.bucket
+  abbrev h : HoldsTaken a tag addr size n flags out
+  h = v.holds
 
   pub long : 16 * (block_size tag.bucket / 16) ≡ block_size tag.bucket
-  long = let k = granules.0 in omega (arith, k)
+  long = whole_granules tag.bucket
+
+  one_granule : 16 ≤ block_size tag.bucket
+  one_granule = let e = long in let k = positive tag.bucket h.block.number.number h.block.number.below in omega (arith, e, k)
+
+  one_now : Always a (λ s. HoldsFrontPlace (now s a).state a.number p)
+  one_now s z = let x = (h.block.hand s z).hand in record { lfh = x layers.Lfh; vs = x layers.Vs; back = x layers.Back; large = x layers.Large }
 
   first_now : Always a (λ s. find (has_address addr) (exclusive_places (now s a).state a.number) ≡ Some p)
-  first_now s z = hand_first (now s a).state a.number addr p (ap (find (has_address addr)) (all_hands (now s a).state a.number p (v.hand s z)) ∙ (let k = eq-eqb addr addr refl in rw k refl))
+  first_now s z = hand_first (now s a).state a.number addr p (ap (find (has_address addr)) (all_hands (now s a).state a.number p (one_now s z)) ∙ (let k = eq-eqb addr addr refl in rw k refl))
 
   pub to_place : (bucket : ℕ) → bucket_of n ≡ Some bucket → is_out whats.Vs out ≡ true → is_out whats.Back out ≡ true → IsToPlace a bucket
   to_place bucket bucket_is vs_out back_out =
       mover_places a addr n bucket flags p
       (λ s z. record {
-        call = (sa s z).call ∙ v.call_is;
-        placed = v.placed s z;
-        no_span = v.no_span s z;
-        search = v.search s z;
+        call = (sa s z).call ∙ h.call_is;
+        placed = h.placed s z;
+        no_span = v.nothing.no_span s z;
+        search = v.nothing.search s z;
         first = first_now s z;
         touch = refl;
         there = eq-eqb a.number a.number refl;
-        leaves = ap (λ (y : ℕ). nat_le n 16368 && nat_le n y) long ∙ v.leaves;
+        leaves = ap (λ (y : ℕ). nat_le n 16368 && nat_le n y) long ∙ h.leaves;
       })
-      v.may_move bucket_is v.inside v.whole v.searched v.drawn v.owes (ap (is_out whats.Vs) v.out_is ∙ vs_out) (ap (is_out whats.Back) v.out_is ∙ back_out)
+      h.may_move bucket_is h.block.inside h.block.whole v.nothing.searched (sym h.drawn ∙ v.nothing.searched) h.owes (ap (is_out whats.Vs) h.out_is ∙ vs_out) (ap (is_out whats.Back) h.out_is ∙ back_out)
 
   inside_a : IsInside a
-  inside_a s z = (sa s z).entered ∙ v.inside
+  inside_a s z = (sa s z).entered ∙ h.block.inside
 
   ---- The new block
 
@@ -151,7 +164,7 @@ module _ (a : Token) (tag : Tag) (addr size n : ℕ) (flags : Flags) (out : List
     agree s z = subst (λ (k : ℕ). AgreesFor k (now s e) (now s d)) x.goes.number (r.agrees s z)
 
     hands_d : (s : Setting) → IsSettingOf e.opening e.roll s → hands (now s d).state a.number ≡ q ∷ p ∷ []
-    hands_d s z = x.hands s (at_d s z) ∙ ap (λ (ps : List Place). q ∷ ps) (all_hands (now s a).state a.number p (v.hand s (at_a s z)))
+    hands_d s z = x.hands s (at_d s z) ∙ ap (λ (ps : List Place). q ∷ ps) (all_hands (now s a).state a.number p (one_now s (at_a s z)))
 
     hands_e : (s : Setting) → IsSettingOf e.opening e.roll s → hands (now s e).state a.number ≡ q ∷ p ∷ []
     hands_e s z = same_hands s a.number (now s e) (now s d) (agree s z) ∙ hands_d s z
@@ -176,16 +189,16 @@ module _ (a : Token) (tag : Tag) (addr size n : ℕ) (flags : Flags) (out : List
         let d1 = disjoint_front ((st.lfh ++ st.vs.places) ++ st.back.places) st.large (all_disjoint s (now s e) w) in
         let d2 = disjoint_front (st.lfh ++ st.vs.places) st.back.places d1 in
         let d3 = disjoint_front st.lfh st.vs.places d2 in
-        let two = lfh_now a.number (now s a) (now s d) (now s e) p (v.hand s (at_a s z)) (x.stands.beside s (at_d s z)) (agree s z) (q ∷ p ∷ []) (hands_d s z) in
+        let two = lfh_now a.number (now s a) (now s d) (now s e) p (one_now s (at_a s z)) (x.stands.beside s (at_d s z)) (agree s z) (q ∷ p ∷ []) (hands_d s z) in
         let start : q.start ≡ addr = at_b ∙ sym is in
-        meet (block_address bucket x.head x.index) (block_size bucket / 16) (block_size tag.bucket / 16) (block_size bucket) (block_size tag.bucket) new_long long new_granules.1 granules.1 start (apart_in a.number st.lfh q p two d3)
+        meet (block_address bucket x.head x.index) (block_size bucket / 16) (block_size tag.bucket / 16) (block_size bucket) (block_size tag.bucket) new_long long new_granules.1 one_granule start (apart_in a.number st.lfh q p two d3)
       where
         meet : (start g1 g2 s1 s2 : ℕ) → 16 * g1 ≡ s1 → 16 * g2 ≡ s2 → 16 ≤ s1 → 16 ≤ s2 → start ≡ addr → (start + 16 * g1 ≤ addr) ⊎ (addr + 16 * g2 ≤ start) → ⊥
         meet start g1 g2 s1 s2 a1 a2 b1 b2 c (inl h) = omega (arith, a1, a2, b1, b2, c, h)
         meet start g1 g2 s1 s2 a1 a2 b1 b2 c (inr h) = omega (arith, a1, a2, b1, b2, c, h)
 
     begun_e : (s : Setting) → IsSettingOf e.opening e.roll s → is_some ((now s e).now.calls a.number).call ≡ true
-    begun_e s z = subst (λ (k : ℕ). is_some ((now s e).now.calls k).call ≡ true) number (ap is_some ((se s z).call ∙ (t.call ∙ (x.stands.call ∙ v.call_is))))
+    begun_e s z = subst (λ (k : ℕ). is_some ((now s e).now.calls k).call ≡ true) number (ap is_some ((se s z).call ∙ (t.call ∙ (x.stands.call ∙ h.call_is))))
 
     new_block : (s : Setting) → IsSettingOf e.opening e.roll s → HasBlock (now s e) a.number bucket b
     new_block s z = record {
@@ -212,16 +225,21 @@ module _ (a : Token) (tag : Tag) (addr size n : ℕ) (flags : Flags) (out : List
     fits : n ≤ block_size bucket
     fits = (bucket_fits n bucket bucket_is).1
 
+    read : HasRead e tag.head tag.bucket tag.slot
+    read =
+        reads_on a e list goes_ae h.prepared t.prepared legal (stay_two x.its (x.made ++ place bucket x.head x.index ∷ []) (stay_quiet x.its x.are.quiet) (stay_came x.made back kept bucket (own_slot a) x.draw x.head x.index x.came)) inside_a
+        tag.head tag.bucket tag.slot h.block.read
+
     two : HoldsTwo e (calls.Realloc addr n flags) tag addr size p b n q out
     two =
         let nw = within_of bucket b new_block in let ow = within_of tag.bucket addr old_block in
-        let y = new_granules.1 in let l = fits in let lo = v.fits in let yo = granules.1 in
-        let at : addr ≡ 4096 * tag.head + 64 + v.number.number * block_size tag.bucket = v.number.start in
+        let y = new_granules.1 in let l = fits in let lo = h.block.fits in let yo = one_granule in
+        let at : addr ≡ 4096 * tag.head + 64 + h.block.number.number * block_size tag.bucket = h.block.number.start in
         record {
-          call_is = t.call ∙ (x.stands.call ∙ v.call_is);
-          fresh = t.fresh ∙ (x.stands.fresh ∙ v.fresh);
+          call_is = t.call ∙ (x.stands.call ∙ h.call_is);
+          fresh = t.fresh ∙ (x.stands.fresh ∙ h.fresh);
           inside = t.inside ∙ x.stands.inside;
-          out_is = t.out ∙ (x.stands.out ∙ v.out_is);
+          out_is = t.out ∙ (x.stands.out ∙ h.out_is);
           whole = t.whole;
           pending = t.pending;
           prepared = t.prepared;
@@ -238,11 +256,11 @@ module _ (a : Token) (tag : Tag) (addr size n : ℕ) (flags : Flags) (out : List
           old_front = refl;
           old_at = refl;
           old_long = long;
+          of = bucket_read e t.prepared valid_e slots legal tag.head tag.bucket tag.slot read;
           apart = apart;
-          read = reads_on a e list goes_ae v.prepared t.prepared legal (stay_two x.its (x.made ++ place bucket x.head x.index ∷ []) (stay_quiet x.its x.are.quiet) (stay_came x.made back kept bucket (own_slot a) x.draw x.head x.index x.came)) inside_a
-              tag.head tag.bucket tag.slot v.read;
-          number = v.number;
-          head = below tag.head (v.number.number * block_size tag.bucket) (block_size tag.bucket) e.opening.limits.segments at ow;
+          read = read;
+          number = h.block.number;
+          head = below tag.head (h.block.number.number * block_size tag.bucket) (block_size tag.bucket) e.opening.limits.segments at ow;
           from = omega (arith, ow, lo, yo);
           to = omega (arith, nw, l, y);
         }
@@ -251,7 +269,7 @@ module _ (a : Token) (tag : Tag) (addr size n : ℕ) (flags : Flags) (out : List
         below head more s segments h k = omega (arith, h, k)
 
     out_d : d.out ≡ out
-    out_d = x.stands.out ∙ v.out_is
+    out_d = x.stands.out ∙ h.out_is
 
     pub has_new : HasNewBeside a e (calls.Realloc addr n flags) tag addr size n p out more kept b
     has_new = record {
@@ -264,7 +282,7 @@ module _ (a : Token) (tag : Tag) (addr size n : ℕ) (flags : Flags) (out : List
         shape_is = x.shape_is;
         call = t.call ∙ x.stands.call;
         fresh = t.fresh ∙ x.stands.fresh;
-        inside = (t.inside ∙ x.stands.inside) ∙ sym v.inside;
+        inside = (t.inside ∙ x.stands.inside) ∙ sym h.block.inside;
         out = t.out ∙ x.stands.out;
       };
       tells = record {
@@ -296,46 +314,71 @@ module _ (a : Token) (tag : Tag) (addr size n : ℕ) (flags : Flags) (out : List
     agree2 s z = subst (λ (k : ℕ). AgreesFor k (now s e) (now s d)) x.goes.number (r.agrees s z)
 
     still : (s : Setting) → IsSettingOf e.opening e.roll s → HoldsFrontPlace (now s e).state a.number p
-    still s z = still_one a.number (now s a) (now s d) (now s e) p (v.hand s (before_a s z)) (x.stands.beside s (before_d s z)) (agree2 s z) (x.hands s (before_d s z))
+    still s z = still_one a.number (now s a) (now s d) (now s e) p (one_now s (before_a s z)) (x.stands.beside s (before_d s z)) (agree2 s z) (x.hands s (before_d s z))
 
     call_e : e.call ≡ Some (calls.Realloc addr n flags)
-    call_e = t.call ∙ (x.stands.call ∙ v.call_is)
+    call_e = t.call ∙ (x.stands.call ∙ h.call_is)
 
     out_now : d.out ≡ out
-    out_now = x.stands.out ∙ v.out_is
+    out_now = x.stands.out ∙ h.out_is
 
-    old_now : Always e (λ s. holds_old_block (now s e) e.number ≡ true)
-    old_now s z = subst (λ (k : ℕ). holds_old_block (now s e) k ≡ true) (sym number2)
-        (or_right ((now s e).now.calls a.number).placed (for_some ((now s e).now.calls a.number).call (moves_exclusive (now s e) a.number))
-        (subst (λ (k : ℕ). for_some ((now s e).now.calls k).call (moves_exclusive (now s e) k) ≡ true) number2
-        (ap (λ (o : Rattle.std.specs.Prelude.Option Call). for_some o (moves_exclusive (now s e) e.number)) ((se s z).call ∙ call_e)
-        ∙ subst (λ (k : ℕ). for_some (find (has_address addr) (exclusive_places (now s e).state k)) (λ (y : Place). may_touch (caller_view (now s e) k) y.layer) ≡ true) (sym number2)
-        (ap (λ (o : Rattle.std.specs.Prelude.Option Place). for_some o (λ (y : Place). may_touch (caller_view (now s e) a.number) y.layer)) (hand_first (now s e).state a.number addr p (ap (find (has_address addr)) (all_hands (now s e).state a.number p (still s z)) ∙ (let k = eq-eqb addr addr refl in rw k refl)))))))
+    old_hand : Always e (λ s. IsTaken (now s e) e.number addr (taken_place tag.bucket addr e.number))
+    old_hand s z = subst (λ (k : ℕ). IsTaken (now s e) k addr (taken_place tag.bucket addr k)) (sym number2) (record { at = refl; front = refl; status = refl; hand = by })
+      where
+        by : (l : Layer) → in_hand a.number (places_of (now s e).state l) ≡ holding p l
+        by layers.Lfh = (still s z).lfh
+        by layers.Vs = (still s z).vs
+        by layers.Back = (still s z).back
+        by layers.Large = (still s z).large
 
-    pub unserved : IsUnserved a e tag addr back kept bucket
-    unserved = record {
-      its = x.its;
-      are = x.are;
-      goes = goes_ae2;
-      call = t.call ∙ x.stands.call;
-      fresh = t.fresh ∙ x.stands.fresh;
-      inside = (t.inside ∙ x.stands.inside) ∙ sym v.inside;
-      out = t.out ∙ x.stands.out;
-      whole = t.whole;
+    unplaced : Always e (λ s. ((now s e).now.calls e.number).placed ≡ false)
+    unplaced s z =
+        ap (λ (k : CallState). k.placed) (called_since s a e x.its goes_ae2 (ap (is_by a.number) h.prepared) (ap (is_by e.number) t.prepared))
+        ∙ still_unplaced s a.number ((now s a).now.calls a.number) x.its x.are.shape_is (h.placed s (before_a s z))
+
+    holds_still : HoldsTaken e tag addr size n flags out
+    holds_still = record {
+      block = record {
+        inside = t.inside ∙ x.stands.inside;
+        whole = t.whole;
+        begun = ap is_some call_e;
+        hand = old_hand;
+        fits = h.block.fits;
+        small = h.block.small;
+        read = reads_on a e x.its goes_ae2 h.prepared t.prepared r.does.legal (stay_quiet x.its x.are.quiet) inside_a tag.head tag.bucket tag.slot h.block.read;
+        number = h.block.number;
+        ends = subst (λ (o : Opening). addr + block_size tag.bucket ≤ 1048576 * o.limits.segments) (sym goes_ae2.opening) h.block.ends;
+      };
+      call_is = call_e;
+      fresh = t.fresh ∙ (x.stands.fresh ∙ h.fresh);
+      out_is = t.out ∙ out_now;
       pending = t.pending;
       prepared = t.prepared;
       drawn = (t.searched ∙ x.stands.searched) ∙ sym (t.drawn ∙ x.stands.drawn);
       owes = t.owes ∙ x.stands.owes;
-      hand = λ s z. subst (λ (k : ℕ). HoldsFrontPlace (now s e).state k (taken_place tag.bucket addr k)) (sym number2) (still s z);
-      read = reads_on a e x.its goes_ae2 v.prepared t.prepared r.does.legal (stay_quiet x.its x.are.quiet) inside_a tag.head tag.bucket tag.slot v.read;
-      cannot = record {
-        said = λ s z. subst (λ (k : ℕ). ((now s e).now.calls k).no_span ≡ true) (sym r.does.number) (ap (λ (k : CallState). k.no_span) (r.agrees s z).call ∙ x.cannot.said s (before_d s z));
-        refused = λ s z.
-            let held : holds (now s d).state.gate d.number whats.Back ≡ true = (sd s (before_d s z)).locks whats.Back ∙ (ap (is_out whats.Back) out_now ∙ back_out) in
-            subst (λ (k : ℕ). cannot_be_served s (now s e).state.back.area k (caller_view (now s e) k) (request_of s (now s e) k) bucket ≡ true) (sym r.does.number)
-            (still_cannot s d.number (now s d) (now s e) bucket (r.agrees s z) held (x.cannot.old s (before_d s z)) (x.cannot.refused s (before_d s z)));
-        old = old_now;
-      };
+      placed = unplaced;
+      may_move = h.may_move;
+      leaves = h.leaves;
+    }
+
+    cannot_now : CannotBeServed e bucket
+    cannot_now = record {
+      said = λ s z. subst (λ (k : ℕ). ((now s e).now.calls k).no_span ≡ true) (sym r.does.number) (ap (λ (k : CallState). k.no_span) (r.agrees s z).call ∙ x.cannot.said s (before_d s z));
+      refused = λ s z.
+          let held : holds (now s d).state.gate d.number whats.Back ≡ true = (sd s (before_d s z)).locks whats.Back ∙ (ap (is_out whats.Back) out_now ∙ back_out) in
+          subst (λ (k : ℕ). cannot_be_served s (now s e).state.back.area k (caller_view (now s e) k) (request_of s (now s e) k) bucket ≡ true) (sym r.does.number)
+          (still_cannot s d.number (now s d) (now s e) bucket (r.agrees s z) held (x.cannot.old s (before_d s z)) (x.cannot.refused s (before_d s z)));
+      old = λ s z. holds_mine (now s e) e.number addr n flags (taken_place tag.bucket addr e.number) ((se s z).call ∙ call_e)
+          ((mover true e addr size n flags (taken_place tag.bucket addr e.number) out (taken_moving e tag addr size n flags out holds_still slots)).old s z);
+    }
+
+    pub unserved : IsUnserved a e tag addr size n flags out back kept bucket
+    unserved = record {
+      its = x.its;
+      are = x.are;
+      goes = goes_ae2;
+      holds = holds_still;
+      cannot = cannot_now;
       slots = slots;
       same = x.same;
     }

@@ -3,3 +3,4 @@ pub mod Reading
 pub mod Beside
 pub mod Swapping
 pub mod Over
+pub mod Keeping

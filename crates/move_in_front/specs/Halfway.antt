@@ -4,6 +4,8 @@ use Rattle.std.specs.List.{list_all}
 use Rattle.heap_model.specs.declared.Act.{Act}
 use Rattle.heap_model.specs.declared.Act.TheVariants as acts
 use Rattle.heap_model.specs.declared.Call.{Call}
+use Rattle.heap_model.specs.declared.Call.TheVariants as calls
+use Rattle.heap_model.specs.declared.Flags.{Flags}
 use Rattle.heap_model.specs.declared.Layer.TheVariants as layers
 use Rattle.heap_model.specs.Buckets.{block_size}
 use Rattle.heap_model.specs.Geometry.{words_of}
@@ -11,6 +13,7 @@ use Rattle.heap_model.specs.Legal.{is_begin}
 use Rattle.heap_model.specs.Shape.{shape_of, moving}
 use Rattle.heap_model.specs.State.{Place, address, hands}
 use Rattle.claim_rule.specs.Places.{data_count}
+use Rattle.lfh_buckets.specs.Blocks.{IsBucket}
 use Rattle.step_parts.specs.InHand.{IsBlockNumber}
 use Rattle.heap_gate.specs.Token.{Token, Always, now}
 use Rattle.backend_fit.specs.Kept.{Kept}
@@ -47,6 +50,7 @@ pub record HoldsTwo (c : Token) (call : Call) (tag : Tag) (addr size : ℕ) (p :
   pub old_front : p.layer ≡ layers.Lfh
   pub old_at : address p ≡ addr
   pub old_long : 16 * p.granules ≡ block_size tag.bucket
+  pub of : IsBucket tag.bucket
   pub apart : addr ≡ b → ⊥
   pub read : HasRead c tag.head tag.bucket tag.slot
   pub number : IsBlockNumber tag.head tag.bucket addr
@@ -71,10 +75,10 @@ pub record HasNewBeside (old new : Token) (call : Call) (tag : Tag) (addr size n
   pub made : HasMadeBeside old new place
   pub tells : TellsLow new more kept
 
-abbrev pub HoldsBeside : Token → Token → Call → Tag → ℕ → ℕ → ℕ → Place → List ℕ → VsKept → VsKept → Kept → Kept → ℕ → Front → Type 0
-HoldsBeside old new call tag addr size n p out vs more back kept bucket (Held b) = HasNewBeside old new call tag addr size n p out more kept b
-HoldsBeside old new call tag addr size n p out vs more back kept bucket Idle = IsIdle old new n vs more back kept
-HoldsBeside old new call tag addr size n p out vs more back kept bucket NoRoom = IsUnserved old new tag addr back kept bucket × TellsLow new more kept
+abbrev pub HoldsBeside : Token → Token → Flags → Tag → ℕ → ℕ → ℕ → Place → List ℕ → VsKept → VsKept → Kept → Kept → ℕ → Front → Type 0
+HoldsBeside old new flags tag addr size n p out vs more back kept bucket (Held b) = HasNewBeside old new (calls.Realloc addr n flags) tag addr size n p out more kept b
+HoldsBeside old new flags tag addr size n p out vs more back kept bucket Idle = IsIdle old new n vs more back kept
+HoldsBeside old new flags tag addr size n p out vs more back kept bucket NoRoom = IsUnserved old new tag addr size n flags out back kept bucket × TellsLow new more kept
 
 -- The words were moved, the new block was given, and the old one dropped. The caller stands as it did.
 pub record HasSwappedTaken (old new : Token) (addr size b n : ℕ) (zero : Bool) : Type 0 where

@@ -1,2 +1,3 @@
 pub mod Taken
 pub mod Halfway
+pub mod Laws

@@ -1,7 +1,6 @@
-//! A block of the front end, in hand, that moves to another one.
-ghost use Rattle.std.specs.Prelude.{◌≡◌, ◌≤◌, ℕ, List, Some, true};
+//! A block of the front end, in hand, that moves to another one, or to one of the variable-size layer where the front end has none.
+ghost use Rattle.std.specs.Prelude.{◌≡◌, ◌≤◌, ℕ, List, Some, true, IfSome, IfNone};
 ghost use Rattle.heap_model.specs.declared.Call.{Call as ACall};
-ghost use Rattle.heap_model.specs.declared.Call.TheVariants as calls;
 ghost use Rattle.heap_model.specs.declared.Flags.{Flags as AFlags};
 ghost use Rattle.heap_model.specs.declared.What.TheVariants as whats;
 ghost use Rattle.heap_model.specs.Buckets.{bucket_of};
@@ -10,9 +9,14 @@ ghost use Rattle.heap_gate.specs.Token.{is_out};
 ghost use Rattle.lfh_buckets.specs.Blocks.{IsBucket};
 ghost use Rattle.backend_fit.specs.Kept.{Kept};
 ghost use Rattle.vs_layer.specs.Kept.{VsKept};
+ghost use Rattle.claim_rule.specs.Entries.{have_slots};
+ghost use Rattle.lfh_search.specs.Under.{CannotBeServed};
 ghost use Rattle.move_parts.specs.Moves.{TellsVs, TellsBack};
+ghost use Rattle.move_parts.specs.Places.{IsWithout};
+ghost use Rattle.move_taken.specs.Holds.{HoldsTaken, taken_place};
+ghost use Rattle.move_taken.specs.Moved.{HasMovedTakenLow};
 ghost use Rattle.move_to_front.specs.Moved.{TellsLow};
-ghost use Rattle.move_in_front.specs.Taken.{HasTaken, MovesInFront, taken_place};
+ghost use Rattle.move_in_front.specs.Taken.{HasTaken, MovesInFront};
 ghost use Rattle.move_in_front.specs.Halfway.{HoldsBeside, HoldsTwo, HasSwappedTaken};
 
 use backend_fit::Back;
@@ -21,19 +25,20 @@ use heap_gate::{Caller, Heap, rest};
 use lfh_claims::{Tag, clear, publish};
 use move_front::{Front, hold_front};
 use move_parts::move_words;
+use move_taken::end_taken;
+use move_to_front::hold_behind;
 use stay_calls::hear;
 use vs_layer::Vs;
 
 /// What comes of a move within the front end.
 #[derive(Clone, Copy, Debug, PartialEq, Eq)]
 pub enum InFront {
-    /// The block is at this address now.
+    /// The block is at this address now: one of the front end, or of the variable-size layer where the front end has none.
     Moved { addr: u64 },
     /// The bucket is neither active nor due: the variable-size layer serves the size. Nothing has changed.
     Idle,
-    /// The front end has no block for it, and no room for a subsegment: the variable-size layer serves the size. The old block is in
-    /// hand as it was.
-    NoRoom,
+    /// Neither has room for the size. The old block is in hand as it was.
+    NoFit,
 }
 
 /// Has a new block of the front end in hand beside the one that moves.
@@ -50,7 +55,7 @@ fn hold_beside(
     requires bucket { bucket_of n ≡ Some bucket }
     requires table { (c.old.table ≡ heap.now.table) × (c.old.opening ≡ heap.now.opening) }
     requires taken { (addr size : ℕ) × (flags : AFlags) × (out : List ℕ) × HasTaken c.old _tag addr size n flags out × (is_out whats.Vs out ≡ true) × TellsVs c.old vs.old × (is_out whats.Back out ≡ true) × TellsBack c.old back.old }
-    ensures { (addr size : ℕ) (flags : AFlags) (out : List ℕ) → HasTaken c.old _tag addr size n flags out → is_out whats.Vs out ≡ true → TellsVs c.old vs.old → is_out whats.Back out ≡ true → TellsBack c.old back.old → HoldsBeside c.old c.new (calls.Realloc addr n flags) _tag addr size n (taken_place _tag.bucket addr c.old.number) out vs.old vs.new back.old back.new bucket result }
+    ensures { (addr size : ℕ) (flags : AFlags) (out : List ℕ) → HasTaken c.old _tag addr size n flags out → is_out whats.Vs out ≡ true → TellsVs c.old vs.old → is_out whats.Back out ≡ true → TellsBack c.old back.old → HoldsBeside c.old c.new flags _tag addr size n (taken_place _tag.bucket addr c.old.number) out vs.old vs.new back.old back.new bucket result }
 {
     let _limits = heap.limits();
     c.check();
@@ -98,8 +103,43 @@ fn swap_taken(
     rest(c);
 }
 
+/// Moves the block to a new place of the variable-size layer, where the front end could not serve its bucket. Where no range is there for
+/// it, nothing changes.
+fn late_taken(
+    heap: &Heap<State>,
+    c: &mut Caller<State>,
+    vs: &mut Vs,
+    back: &mut Back,
+    tag: Tag,
+    addr: u64,
+    size: u64,
+    n: u64,
+    bucket: u8,
+    zero: bool,
+) -> Option<u64>
+    requires bucket { bucket_of n ≡ Some bucket }
+    requires table { (c.old.table ≡ heap.now.table) × (c.old.opening ≡ heap.now.opening) }
+    requires slots { have_slots c.old.opening.limits.slots c.old.roll ≡ true }
+    requires moving { (flags : AFlags) × (out : List ℕ) × HoldsTaken c.old tag addr size n flags out × (is_out whats.Vs out ≡ true) × TellsVs c.old vs.old × (is_out whats.Back out ≡ true) × TellsBack c.old back.old }
+    requires cannot { CannotBeServed c.old bucket }
+    ensures moved { IfSome result (λ b. (flags : AFlags) (out : List ℕ) → flags.zero ≡ zero → HoldsTaken c.old tag addr size n flags out → is_out whats.Vs out ≡ true → TellsVs c.old vs.old → is_out whats.Back out ≡ true → TellsBack c.old back.old → HasMovedTakenLow c.old c.new tag addr size n flags b vs.new back.new) }
+    ensures none { IfNone result (IsWithout c.old c.new n × (vs.new ≡ vs.old) × (back.new ≡ back.old)) }
+{
+    let _limits = heap.limits();
+    c.check();
+    let Some(b) = hold_behind(heap, c, vs, back, n, bucket) else {
+        return None;
+    };
+    c.check();
+    move_words(heap, c, addr, size, b, n, zero);
+    c.check();
+    end_taken(heap, c, tag, addr, b, n);
+    Some(b)
+}
+
 /// Moves a block of the front end that its caller has taken to a new one of a bucket of the front end, and zeroes the words that it
-/// gains where `zero` is asked. Both locks are held still.
+/// gains where `zero` is asked. Where the front end has no block for it, and no room for a subsegment, it goes to a new place of the
+/// variable-size layer. Both locks are held still.
 pub fn move_taken_to_front(
     heap: &Heap<State>,
     c: &mut Caller<State>,
@@ -116,14 +156,19 @@ pub fn move_taken_to_front(
     requires bucket { bucket_of n ≡ Some bucket }
     requires table { (c.old.table ≡ heap.now.table) × (c.old.opening ≡ heap.now.opening) }
     requires taken { (flags : AFlags) × (out : List ℕ) × HasTaken c.old tag addr size n flags out × (is_out whats.Vs out ≡ true) × TellsVs c.old vs.old × (is_out whats.Back out ≡ true) × TellsBack c.old back.old }
-    ensures { (flags : AFlags) (out : List ℕ) → flags.zero ≡ zero → HasTaken c.old tag addr size n flags out → is_out whats.Vs out ≡ true → TellsVs c.old vs.old → is_out whats.Back out ≡ true → TellsBack c.old back.old → MovesInFront c.old c.new tag addr size n flags vs.old vs.new back.old back.new bucket result }
+    ensures { (flags : AFlags) (out : List ℕ) → flags.zero ≡ zero → HasTaken c.old tag addr size n flags out → is_out whats.Vs out ≡ true → TellsVs c.old vs.old → is_out whats.Back out ≡ true → TellsBack c.old back.old → MovesInFront c.old c.new tag addr size n flags out vs.old vs.new back.old back.new result }
 {
     match hold_beside(heap, c, vs, back, tag, n, bucket) {
         Front::Held { addr: b } => {
             swap_taken(heap, c, tag, addr, size, b, n, zero);
             InFront::Moved { addr: b }
         }
-        Front::NoRoom => InFront::NoRoom,
+        Front::NoRoom => {
+            match late_taken(heap, c, vs, back, tag, addr, size, n, bucket, zero) {
+                Some(b) => InFront::Moved { addr: b },
+                None => InFront::NoFit,
+            }
+        }
         Front::Idle => InFront::Idle,
     }
 }

@@ -1,11 +1,11 @@
 mod Hands
-mod Blocks
+pub mod Blocks
 mod GivenBack
 mod Ending
 mod ReadOn
-mod Moving
+pub mod Moving
 mod Alone
-mod Keeping
-mod Before
-mod Found
+pub mod Keeping
+pub mod Before
+pub mod Found
 pub mod Shown

@@ -20,6 +20,7 @@ use Rattle.lfh_buckets.specs.Blocks.{IsBucket}
 use Rattle.step_parts.proofs.BlockWords.{in_lfh}
 use Rattle.heap_gate.specs.Token.{Token, now, IsStanding}
 use Rattle.lfh_claims.specs.declared.tag.Tag.{Tag}
+use Rattle.lfh_claims.specs.Stays.{HasRead}
 use Rattle.call_parts.specs.Entries.{HasAdded}
 use Rattle.call_parts.proofs.Tokens.{added_then}
 use Rattle.move_parts.specs.Moves.{IsMovingTaken, IsHalfwayTaken, HasFilled}
@@ -30,6 +31,20 @@ use Rattle.move_taken.specs.Holds.{taken_place, HoldsTaken}
 use Rattle.move_taken.specs.Moved.{HasMovedTaken, MayEndTaken, EndsTaken}
 use Rattle.move_taken.proofs.Blocks.{positive, inside_now}
 use Rattle.move_taken.proofs.ReadOn.{fill-append, making_fill, moving_fill, read_on}
+
+---- The tag
+
+-- the tag that a caller has read names a bucket
+pub bucket_read : (c : Token) → c.prepared ≡ [] → AreValid c.opening.limits → have_slots c.opening.limits.slots c.roll ≡ true → IsLegalWith c.opening c.roll c.seen → (head b t : ℕ) → HasRead c head b t → IsBucket b
+bucket_read c none valid slots legal head b t read =
+    let here : Setting = home c none valid slots legal in
+    let z = read here (home_is c none valid slots legal) in
+    let m = (now here c).state in
+    let kept : Keeps here (now here c) = keeps_behind c none valid slots legal [] refl in
+    let i = in_lfh m.back.area.spans z.span z.there in
+    let sound = all_at (λ x. IsSoundSpan here m.vs.active x x.kind) z.span m.back.area.spans kept.of_kinds i.0 in
+    let lfh : IsSoundLfh here m.vs.active z.span = subst (λ k. IsSoundSpan here m.vs.active z.span k) i.1 sound in
+    subst IsBucket z.bucket (record { first = lfh.bucket.0; last = lfh.bucket.1 })
 
 ---- Before
 
@@ -56,23 +71,9 @@ module _ (c : Token) (tag : Tag) (addr size n : ℕ) (flags : Flags) (out : List
     slots = slots;
   }
 
-  ---- The tag
-
   module _ (valid : AreValid c.opening.limits) (legal : IsLegalWith c.opening c.roll c.seen) where
-    abbrev here : Setting
-    here = home c h.prepared valid slots legal
-
-    kept : Keeps here (now here c)
-    kept = keeps_behind c h.prepared valid slots legal [] refl
-
     pub bucket_is : IsBucket tag.bucket
-    bucket_is =
-        let z = h.block.read here (home_is c h.prepared valid slots legal) in
-        let m = (now here c).state in
-        let i = in_lfh m.back.area.spans z.span z.there in
-        let sound = all_at (λ x. IsSoundSpan here m.vs.active x x.kind) z.span m.back.area.spans kept.of_kinds i.0 in
-        let lfh : IsSoundLfh here m.vs.active z.span = subst (λ k. IsSoundSpan here m.vs.active z.span k) i.1 sound in
-        subst IsBucket z.bucket (record { first = lfh.bucket.0; last = lfh.bucket.1 })
+    bucket_is = bucket_read c h.prepared valid slots legal tag.head tag.bucket tag.slot h.block.read
 
     pub head_there : tag.head < 256 * c.opening.limits.segments
     head_there =

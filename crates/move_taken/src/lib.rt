@@ -9,4 +9,4 @@ pub mod laws;
 mod moves;
 
 pub use back::give_taken_back;
-pub use moves::{move_taken_far, move_taken_low};
+pub use moves::{end_taken, move_taken_far, move_taken_low};

@@ -20,8 +20,8 @@ use lfh_claims::{Tag, clear};
 use move_parts::{hold_large, hold_low, move_words};
 use vs_layer::Vs;
 
-/// Gives the new block `n` bytes, and gives the old one back to its subsegment. Nothing is in hand then.
-fn end_taken(heap: &Heap<State>, c: &mut Caller<State>, tag: Tag, addr: u64, b: u64, n: u64)
+/// Gives the new block, whose words are there, `n` bytes, and gives the old one back to its subsegment. Nothing is in hand then.
+pub fn end_taken(heap: &Heap<State>, c: &mut Caller<State>, tag: Tag, addr: u64, b: u64, n: u64)
     requires table { (c.old.table ≡ heap.now.table) × (c.old.opening ≡ heap.now.opening) }
     requires ends { (q : Place) × MayEndTaken c.old tag addr b n q }
     ensures { (q : Place) → MayEndTaken c.old tag addr b n q → EndsTaken c.old c.new addr b n q }

@@ -1,5 +1,5 @@
 -- A new block of VS in hand in a gap, for one that the front end could not serve.
-use Rattle.std.proofs.Common.{◌≡◌, ℕ, ◌+◌, ◌*◌, ◌/◌, ◌≤◌, true, List, [], ◌∷◌, Option, Some, None, refl, sym, ap, ◌∙◌, subst, arith, inl}
+use Rattle.std.proofs.Common.{◌≡◌, ℕ, ◌+◌, ◌*◌, ◌/◌, ◌≤◌, Bool, true, List, [], ◌∷◌, Option, Some, None, refl, sym, ap, ◌∙◌, subst, arith, inl}
 use Rattle.std.specs.Prelude.{cond}
 use Rattle.heap_model.specs.declared.Act.{Act}
 use Rattle.heap_model.specs.declared.Act.TheVariants as acts
@@ -37,30 +37,34 @@ use Rattle.call_parts.proofs.Serving.{within}
 use Rattle.call_parts.proofs.Tokens.{now_more, prepares, one_prepared, added_one}
 use Rattle.vs_calls.specs.Blocks as vs
 use Rattle.vs_calls.proofs.InHand.{with_hand, suits_run, used_more}
-use Rattle.move_parts.specs.Moves.{IsHalfway, with_given, WillTellVs, TellsVs, TellsBack}
-use Rattle.move_parts.specs.Places.{HasMade, IsWithout}
+use Rattle.move_parts.specs.Moves.{IsHalfwayAny, with_given, WillTellVs, TellsVs, TellsBack}
+use Rattle.move_parts.specs.Places.{HasHeldAnew, IsWithout}
 use Rattle.move_parts.proofs.Ended.{back_stands, large_stands}
-use Rattle.move_parts.proofs.Holding.{given_front}
+use Rattle.move_parts.proofs.Holding.{IsMadePlainly, given_front}
 use Rattle.move_parts.proofs.Put.{IsPut}
-use Rattle.move_to_front.specs.Halfway.{IsMovingOn, HasHeldBehind}
-use Rattle.move_to_front.proofs.LateHeld.{late_half}
+use Rattle.move_to_front.specs.Halfway.{IsMovingOnAny}
+use Rattle.move_to_front.proofs.LateHeld.{late_any}
+use Rattle.move_to_front.proofs.MovingOn.{IsGoingOn, going_on}
 
-module _ (c : Token) (addr size n : ℕ) (flags : Flags) (p : Place) (out : List ℕ) (v : IsMovingOn c addr size n flags p out) (st : IsStanding c) (held : is_out whats.Vs out ≡ true) (kept : VsKept) (w : TellsVs c kept) (back_out : is_out whats.Back out ≡ true) (back : Kept) (wb : TellsBack c back)
+module _ (c : Token) (taken : Bool) (addr size n : ℕ) (flags : Flags) (p : Place) (out : List ℕ) (v : IsMovingOnAny taken c addr size n flags p out) (st : IsStanding c) (held : is_out whats.Vs out ≡ true) (kept : VsKept) (w : TellsVs c kept) (back_out : is_out whats.Back out ≡ true) (back : Kept) (wb : TellsBack c back)
     (bucket : ℕ) (bucket_is : bucket_of n ≡ Some bucket) (cannot : CannotBeServed c bucket) where
   abbrev call : Call
   call = calls.Realloc addr n flags
+
+  abbrev mine : IsGoingOn c addr n flags p out
+  mine = going_on taken c addr size n flags p out v
 
   pub small : n ≤ 16368
   small = (bucket_fits n bucket bucket_is).0
 
   pub within_now : Always c (λ s. IsWithin (now s c) c.number call)
-  within_now = within c call st v.inside v.call_is v.whole
+  within_now = within c call st mine.inside mine.call_is mine.whole
 
   pub held_now : Always c (λ s. holds (now s c).state.gate c.number whats.Vs ≡ true)
-  held_now s x = (st s x).locks whats.Vs ∙ (ap (is_out whats.Vs) v.out_is ∙ held)
+  held_now s x = (st s x).locks whats.Vs ∙ (ap (is_out whats.Vs) mine.out_is ∙ held)
 
   pub back_now : Always c (λ s. holds (now s c).state.gate c.number whats.Back ≡ true)
-  back_now s x = (st s x).locks whats.Back ∙ (ap (is_out whats.Back) v.out_is ∙ back_out)
+  back_now s x = (st s x).locks whats.Back ∙ (ap (is_out whats.Back) mine.out_is ∙ back_out)
 
   fits_now : (run : Run) → place_for kept n ≡ Some run → Always c (λ s. vs_place (gaps (now s c).state) (units_of n) ≡ Some run)
   fits_now run fits s x = sym (place_is c.opening (now s c).state kept (w.tells s x) n) ∙ fits
@@ -96,21 +100,24 @@ module _ (c : Token) (addr size n : ℕ) (flags : Flags) (p : Place) (out : List
         by layers.Large = refl
 
     module _ (valid : AreValid c.opening.limits) (legal : IsLegalWith c.opening c.roll c.seen) (later : VsKept) (b : ℕ) (t : Token) (h : vs.HasHeld c t kept later n b) (same_run : h.run ≡ run) (to : (16 * run.first + 16) / 8 + words_of n ≤ data_count c.opening.limits) where
-      gap_half : IsHalfway gap_token call addr size p (16 * run.first + 16) n q out
+      gap_half : IsHalfwayAny taken gap_token call addr size p (16 * run.first + 16) n q out
       gap_half =
-          late_half c addr size n flags p out v st valid legal (place ∷ []) refl (16 * run.first) run.count refl (omega arith) v.pending
+          late_any taken c addr size n flags p out v st valid legal (place ∷ []) refl (16 * run.first) run.count refl (omega arith) mine.pending
           (λ s x. one_prepared s (now s c) c.number place [] (gap_may s x) refl) put_now (suits_run n c.number run (let l = small in omega (arith, l)) (count_is (gaps_in kept) (units_of n) run fits)) held_now to
 
-      gap_made : HasMade c gap_token p n q
+      gap_made : IsMadePlainly c gap_token p n q
       gap_made = record {
-        reserves = [];
-        begins = place;
-        more = [];
-        added = added_one c place refl;
-        begins_it = refl;
-        no_begin = refl;
-        shape_is = refl;
-        reserves_are = inl refl;
+        made = record {
+          reserves = [];
+          begins = place;
+          more = [];
+          added = added_one c place refl;
+          begins_it = refl;
+          no_begin = refl;
+          shape_is = refl;
+          reserves_are = inl refl;
+        };
+        plain = refl;
       }
 
       given_vs : Always gap_token (λ s. (with_given (now s gap_token).state c.number q n).vs ≡ with_block (now s c).state.vs run n)
@@ -127,17 +134,16 @@ module _ (c : Token) (addr size n : ℕ) (flags : Flags) (p : Place) (out : List
         h.becomes c.opening (now s c).state (with_given (now s gap_token).state c.number q n) (w.tells s x) (given_vs s x ∙ (λ i. with_block (now s c).state.vs (sym same_run i) n)) (given_spans s x),
       )
 
-      pub gap_held : HasHeldBehind c t addr size n flags p out b later back
+      pub gap_held : HasHeldAnew taken c t addr size n flags p out b later back
       gap_held =
           let e : t ≡ gap_token = h.prepared ∙ (λ i. with_prepared c (acts.Place (16 * (same_run i).first) (same_run i).count layers.Vs)) in
           let at : b ≡ 16 * run.first + 16 = h.at ∙ (λ i. 16 * (same_run i).first + 16) in
-          subst (λ (y : Token). HasHeldBehind c y addr size n flags p out b later back) (sym e) (subst (λ (a : ℕ). HasHeldBehind c gap_token addr size n flags p out a later back) (sym at) (record {
+          subst (λ (y : Token). HasHeldAnew taken c y addr size n flags p out b later back) (sym e) (subst (λ (a : ℕ). HasHeldAnew taken c gap_token addr size n flags p out a later back) (sym at) (record {
             place = q;
-            half = gap_half;
-            made = gap_made;
+            held = record { half = gap_half; made = gap_made.made; plain = gap_made.plain };
             vs = tells_then;
             back = λ s x. back_stands c.opening (now s c).state (with_given (now s gap_token).state c.number q n) back (wb s x) (ap (λ (y : State). y.back) (state_now s x));
-            large = λ o large f s x. large_stands c.opening (now s c).state (with_given (now s gap_token).state c.number q n) large (f s x) (ap (λ (y : State). y.large) (state_now s x));
+            large = λ large f s x. large_stands c.opening (now s c).state (with_given (now s gap_token).state c.number q n) large (f s x) (ap (λ (y : State). y.large) (state_now s x));
           }))
 
   -- the limits that the layer was made for are the heap's

@@ -1,5 +1,5 @@
 -- The new place of VS is prepared and in hand, for a block that moves on behind the front end: where the caller stands then.
-use Rattle.std.proofs.Common.{◌≡◌, ℕ, ◌+◌, ◌/◌, ◌≤◌, true, false, List, [], ◌∷◌, length, refl, sym, ap, ◌∙◌, subst, arith}
+use Rattle.std.proofs.Common.{◌≡◌, ℕ, ◌+◌, ◌/◌, ◌≤◌, Bool, true, false, List, [], ◌∷◌, length, refl, sym, ap, ◌∙◌, subst, arith}
 use Rattle.std.specs.Prelude.{is_some}
 use Rattle.heap_model.specs.declared.Act.{Act}
 use Rattle.heap_model.specs.declared.Call.TheVariants as calls
@@ -21,10 +21,11 @@ use Rattle.call_parts.specs.Entries.{with_all, holding, HasNew, HasAdded}
 use Rattle.call_parts.proofs.Handing.{new_place}
 use Rattle.call_parts.proofs.Serving.{none_begins}
 use Rattle.call_parts.proofs.Tokens.{added_all, length_all, setting_before_all}
-use Rattle.move_parts.specs.Moves.{IsHeld, IsHalfway}
+use Rattle.move_parts.specs.Moves.{IsHeld, IsHalfway, IsHalfwayAny}
+use Rattle.move_parts.proofs.Holding.{half_any}
 use Rattle.move_parts.proofs.Known.{home, home_is, keeps_behind}
 use Rattle.move_parts.proofs.Put.{IsPut, put_hand, held_put, two_apart}
-use Rattle.move_to_front.specs.Halfway.{IsMovingOn}
+use Rattle.move_to_front.specs.Halfway.{IsMovingOn, IsMovingOnAny}
 
 out_all : (c : Token) (rest : List Act) → (with_all c rest).out ≡ c.out
 out_all c [] = refl
@@ -76,7 +77,7 @@ module _ (c : Token) (addr size n : ℕ) (flags : Flags) (p : Place) (out : List
         subst (λ (k : ℕ). may_touch (caller_view (now s t) k) layers.Vs ≡ true) (sym number) (ap (λ (f : GateAndLocks). holds f c.number whats.Vs) (put s y).gate ∙ touch s y);
   }
 
-  pub late_half : IsHalfway t (calls.Realloc addr n flags) addr size p (address q) n q out
+  late_half : IsHalfway t (calls.Realloc addr n flags) addr size p (address q) n q out
   late_half = record {
     call_is = added.steady.call ∙ v.call_is;
     fresh = added.steady.fresh ∙ v.fresh;
@@ -93,3 +94,15 @@ module _ (c : Token) (addr size n : ℕ) (flags : Flags) (p : Place) (out : List
     from = subst (λ (o : Opening). addr / 8 + words_of size ≤ data_count o.limits) (sym added.goes.opening) v.from;
     to = subst (λ (o : Opening). address q / 8 + words_of n ≤ data_count o.limits) (sym added.goes.opening) to;
   }
+
+-- .. so it is beside an old block that was taken
+pub late_any : (taken : Bool) (c : Token) (addr size n : ℕ) (flags : Flags) (p : Place) (out : List ℕ) → IsMovingOnAny taken c addr size n flags p out → IsStanding c → AreValid c.opening.limits → IsLegalWith c.opening c.roll c.seen
+    → (list : List Act) → none_begins list ≡ true → (start granules : ℕ) → (with_all c list).whole ≡ true → length list ≤ 3 → (with_all c list).pending ≡ false
+    → Always c (λ s. are_prepared s (now s c) c.number (by_all c.number list) ≡ true) → Always c (λ s. IsPut (new_place c.number layers.Vs start granules) (now s c).state (now s (with_all c list)).state)
+    → suits n (new_place c.number layers.Vs start granules) ≡ true → Always c (λ s. may_touch (caller_view (now s c) c.number) layers.Vs ≡ true)
+    → address (new_place c.number layers.Vs start granules) / 8 + words_of n ≤ data_count c.opening.limits
+    → IsHalfwayAny taken (with_all c list) (calls.Realloc addr n flags) addr size p (address (new_place c.number layers.Vs start granules)) n (new_place c.number layers.Vs start granules) out
+late_any true c addr size n flags p out v st valid legal list nb start granules whole few pends may put suit touch to =
+    half_any true c addr size n flags p out v st valid legal list nb layers.Vs start granules whole few pends may put refl suit touch to
+late_any false c addr size n flags p out v st valid legal list nb start granules whole few pends may put suit touch to =
+    late_half c addr size n flags p out v st valid legal list nb start granules whole few pends may put suit touch to

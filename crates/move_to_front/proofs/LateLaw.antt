@@ -35,9 +35,7 @@ use Rattle.call_laws.proofs.Within.{updated_here, follows}
 use Rattle.backend_fit.proofs.Goes.{same_segment}
 use Rattle.call_parts.proofs.Tokens.{prepares, one_prepared}
 use Rattle.vs_calls.proofs.SpanMay.{SpanLeads, spans_with}
-use Rattle.move_parts.specs.Moves.{IsHeld}
-use Rattle.move_parts.proofs.Reserved.{holds_by}
-use Rattle.move_to_front.proofs.Areas.{held_area}
+use Rattle.move_parts.proofs.Movers.{IsMine, holds_mine, mine_area}
 use Rattle.move_to_front.proofs.RunsBeside.{IsOutside, free_beside}
 
 none_is : {A : Type 0} (o : Option A) → is_none o ≡ true → o ≡ None
@@ -57,11 +55,11 @@ span_row en bk vs x y z s a spaces first n o e none f l =
     let e3 = eq-eqb (span_pages_of n) (span_pages_of n) refl in
     rw (x, y, z, f, e1, e2) (rw (e, none, e3) refl)
 
-module _ (s : Setting) (m : Configuration) (c addr size n b first : ℕ) (r : Run) (flags : Flags) (p : Place) (w : IsWithin m c (calls.Realloc addr n flags)) (vs : (caller_view m c).vs ≡ true) (back : (caller_view m c).back ≡ true)
+module _ (s : Setting) (m : Configuration) (c addr n b first : ℕ) (r : Run) (flags : Flags) (p : Place) (w : IsWithin m c (calls.Realloc addr n flags)) (vs : (caller_view m c).vs ≡ true) (back : (caller_view m c).back ≡ true)
     (said : (m.now.calls c).no_span ≡ true) (bucket : bucket_of n ≡ Some b) (refused : cannot_be_served s m.state.back.area c (caller_view m c) (request_of s m c) b ≡ true)
     (none : vs_place (gaps m.state) (units_of n) ≡ None) (there : back_place m.state.back.area s.limits.segments (span_pages_of n) ≡ Some first)
     (fits : vs_place (gaps_of (vs_spans (with_span m.state.back.area (vs_span_for first n))) m.state.vs.places) (units_of n) ≡ Some r)
-    (few : n ≤ 16368) (old : IsHeld m c addr p size) (leaves : lets_stay s.limits m.state p n ≡ false) where
+    (few : n ≤ 16368) (old : IsMine m c addr p) (leaves : lets_stay s.limits m.state p n ≡ false) where
   abbrev call : Call
   call = calls.Realloc addr n flags
 
@@ -178,9 +176,9 @@ module _ (s : Setting) (m : Configuration) (c addr size n b first : ℕ) (r : Ru
         let x = and_parts (may_follow s m (entry c span)) _ l.may in
         let y = and_parts (may_follow s (after s m (entry c span)) (entry c place)) true x.1 in
         let m1 = after s m (entry c span) in
-        let old1 = held_area m m1 m1.state.back.area refl c addr size p old in
+        let old1 = mine_area m m1 m1.state.back.area refl c addr p old in
         record {
-          may = one_prepared s m c span (by_all c (place ∷ [])) (prepares s m c span (holds_by m c addr size n flags p w.call_is old) refl x.0)
-              (one_prepared s m1 c place [] (prepares s m1 c place (holds_by m1 c addr size n flags p (call_behind s m c call span refl w.call_is) old1) refl y.0) refl);
+          may = one_prepared s m c span (by_all c (place ∷ [])) (prepares s m c span (holds_mine m c addr n flags p w.call_is old) refl x.0)
+              (one_prepared s m1 c place [] (prepares s m1 c place (holds_mine m1 c addr n flags p (call_behind s m c call span refl w.call_is) old1) refl y.0) refl);
           state = l.state ∙ ap (λ (y : Area). with_vs_block m.state y c first n r) (sym (same_segment area first low));
         }

@@ -1,6 +1,6 @@
 -- A new block of VS in hand in a span that was made for it, for one that the front end could not serve.
 use Rattle.std.proofs.Common.{◌≡◌, ◌⊎◌, ℕ, ◌+◌, ◌*◌, ◌/◌, ◌<◌, ◌-◌, ◌≤◌, Bool, true, false, List, [], ◌∷◌, length, Some, refl, sym, ap, ◌∙◌, subst, arith, ltb, inl, inr}
-use Rattle.std.specs.Prelude.{cond, is_some}
+use Rattle.std.specs.Prelude.{cond}
 use Rattle.std.specs.List.{find, list_all, list_any}
 use Rattle.std.proofs.lemmas.Bool.{cases_Bool, cases_lt, lt-ltb, both_ways}
 use Rattle.heap_model.specs.declared.Act.{Act}
@@ -17,6 +17,7 @@ use Rattle.heap_model.specs.Buckets.{bucket_of}
 use Rattle.heap_model.specs.CallState.{Configuration}
 use Rattle.heap_model.specs.Geometry.{span_pages_of, words_of}
 use Rattle.heap_model.specs.Layers.{StandsForVs, StandsForBack, StandsForLarge}
+use Rattle.heap_model.specs.Marks.{vs_mark}
 use Rattle.heap_model.specs.Legal.{has_place, leaves_whole}
 use Rattle.heap_model.specs.Limits.{AreValid}
 use Rattle.heap_model.specs.Ranges.{vs_spans, is_of_kind}
@@ -27,11 +28,12 @@ use Rattle.heap_soundness.proofs.BackendLemmas.{AreFree, back_place_free, outsid
 use Rattle.heap_soundness.proofs.GapRuns.{filtered_cases}
 use Rattle.heap_soundness.proofs.Lists.{all_at, found_in}
 use Rattle.heap_soundness.proofs.Spans.{in_some}
-use Rattle.claim_rule.specs.Entries.{IsLegalWith, IsSettingOf}
+use Rattle.claim_rule.specs.Entries.{IsLegalWith, IsSettingOf, are_prepared}
 use Rattle.claim_rule.specs.Places.{data_count}
 use Rattle.serial_laws.specs.VsCalls.{vs_span_for}
 use Rattle.call_laws.specs.Spans.{with_vs_block}
-use Rattle.backend_fit.specs.Effects.{with_segment}
+use Rattle.call_laws.specs.Within.{by_all}
+use Rattle.backend_fit.specs.Effects.{with_segment, part_with, marked_run}
 use Rattle.backend_fit.specs.Kept.{Kept}
 use Rattle.backend_fit.specs.Kept as backs
 use Rattle.backend_fit.specs.Sound.{IsSound}
@@ -48,19 +50,21 @@ use Rattle.call_parts.proofs.Handing.{new_place}
 use Rattle.call_parts.proofs.Tokens.{now_all, added_all, setting_before_all}
 use Rattle.vs_calls.specs.Parts.{HasRange, span_acts}
 use Rattle.vs_calls.specs.Parts as parts
-use Rattle.vs_calls.proofs.InHand.{suits_run, HasNewBlock}
-use Rattle.vs_calls.proofs.NewPlaced.{spanned, new_here, here_back, here_limits, span_no_begin}
-use Rattle.vs_calls.proofs.SpanMay.{SpanLeads, HoldsForSpan, span_may, order_now, none_now, fits_now, pages_now, reserved_now}
-use Rattle.move_parts.specs.Moves.{IsHalfway, with_given, WillTellVs, WillTellBack, WillTellLarge, TellsVs, TellsBack, TellsLarge}
-use Rattle.move_parts.specs.Places.{HasMade}
-use Rattle.move_parts.proofs.Ended.{back_stands, large_stands}
-use Rattle.move_parts.proofs.Holding.{given_front}
+use Rattle.vs_calls.proofs.InHand.{suits_run}
+use Rattle.vs_calls.proofs.NewPlaced.{span_no_begin}
+use Rattle.vs_calls.proofs.SpanMay.{SpanLeads, order_now, none_now, fits_now, pages_now, reserved_now}
+use Rattle.move_parts.specs.Moves.{IsHalfwayAny, with_given, WillTellVs, WillTellBack, WillTellLarge, TellsVs, TellsBack, TellsLarge}
+use Rattle.move_parts.specs.Places.{HasHeldAnew}
+use Rattle.move_parts.proofs.Ended.{large_stands}
+use Rattle.move_parts.proofs.Holding.{IsMadePlainly, given_front}
 use Rattle.move_parts.proofs.Put.{IsPut}
 use Rattle.move_parts.proofs.Reserved.{leaves_still}
-use Rattle.move_to_front.specs.Halfway.{IsMovingOn, HasHeldBehind}
+use Rattle.move_parts.proofs.SpanTold.{spanned, span_used, span_tells, span_count, span_limits, span_back}
+use Rattle.move_to_front.specs.Halfway.{IsMovingOnAny}
 use Rattle.move_to_front.proofs.LateGap.{small, within_now, held_now, back_now}
-use Rattle.move_to_front.proofs.LateHeld.{late_half}
+use Rattle.move_to_front.proofs.LateHeld.{late_any}
 use Rattle.move_to_front.proofs.LateLaw.{low, late_leads}
+use Rattle.move_to_front.proofs.MovingOn.{IsGoingOn, going_on}
 use Rattle.move_to_front.proofs.RunsBeside.{IsOutside}
 
 ---- Few entries
@@ -92,17 +96,20 @@ free_apart a y first pages i some free most = elim (cases_lt first (y.first + y.
       | inr k ↦ both_ways (list_any (in_span first) a.spans) (off 0 first most (omega arith)) (in_some a.spans y first i k l)
     ]
 
-module _ (c : Token) (addr size n : ℕ) (flags : Flags) (p : Place) (out : List ℕ) (v : IsMovingOn c addr size n flags p out) (st : IsStanding c) (held : is_out whats.Vs out ≡ true) (vs : VsKept) (w : TellsVs c vs) (back_out : is_out whats.Back out ≡ true) (back : Kept) (wb : TellsBack c back)
+module _ (c : Token) (taken : Bool) (addr size n : ℕ) (flags : Flags) (p : Place) (out : List ℕ) (v : IsMovingOnAny taken c addr size n flags p out) (st : IsStanding c) (held : is_out whats.Vs out ≡ true) (vs : VsKept) (w : TellsVs c vs) (back_out : is_out whats.Back out ≡ true) (back : Kept) (wb : TellsBack c back)
     (bucket : ℕ) (bucket_is : bucket_of n ≡ Some bucket) (cannot : CannotBeServed c bucket) (sound : IsSound back) (inside : AreAt (IsInVs vs.spans) (kept_places vs)) where
+  abbrev mine : IsGoingOn c addr n flags p out
+  mine = going_on taken c addr size n flags p out v
+
   few : n ≤ 16368
-  few = small c addr size n flags p out v st held vs w back_out back wb bucket bucket_is cannot
+  few = small c taken addr size n flags p out v st held vs w back_out back wb bucket bucket_is cannot
 
   -- no gap of a span of free pages begins behind the old block
   outside : (s : Setting) → IsSettingOf c.opening c.roll s → (first : ℕ) → back_place (now s c).state.back.area s.limits.segments (span_pages_of n) ≡ Some first → first / 256 < (now s c).state.back.area.reserved → p.layer ≡ layers.Vs
       → IsOutside (p.start / 16 + p.granules) (vs_span_for first n)
   outside s x first there reserved is_vs =
       let m = (now s c).state in
-      let found : find (has_address addr) m.vs.places ≡ Some p = subst (λ (l : Layer). find (has_address addr) (places_of m l) ≡ Some p) is_vs (v.old s x).there in
+      let found : find (has_address addr) m.vs.places ≡ Some p = mine.of_vs is_vs s x in
       let kept : block_at vs addr ≡ Some p = block_is c.opening m vs (w.tells s x) addr ∙ found in
       let home = all_at (λ (y : Place). IsInVs vs.spans y.start y.granules) p (kept_places vs) inside (found_in (has_address addr) (kept_places vs) p kept) in
       let among = (filtered_cases (is_of_kind kinds.Vs) home.span m.back.area.spans (subst (IsOneOf home.span) (w.tells s x).spans home.there)).0 in
@@ -129,30 +136,19 @@ module _ (c : Token) (addr size n : ℕ) (flags : Flags) (p : Place) (out : List
       let there = pages_now c vs back n first r w.tells wb sound g s x in
       let none = none_now c vs back n first r w.tells wb sound g s x in
       let fits = fits_now c vs back n first r w.tells wb sound g s x in
-      let in_call = within_now c addr size n flags p out v st held vs w back_out back wb bucket bucket_is cannot s x in
-      let has_vs = held_now c addr size n flags p out v st held vs w back_out back wb bucket bucket_is cannot s x in
-      let has_back = back_now c addr size n flags p out v st held vs w back_out back wb bucket bucket_is cannot s x in
-      let reserved = low s m c.number addr size n bucket first r flags p in_call has_vs has_back (cannot.said s x) bucket_is (cannot.refused s x) none there fits few (v.old s x) (v.leaves s x) in
-      let one = late_leads s m c.number addr size n bucket first r flags p in_call has_vs has_back (cannot.said s x) bucket_is (cannot.refused s x) none there fits few (v.old s x) (v.leaves s x)
+      let in_call = within_now c taken addr size n flags p out v st held vs w back_out back wb bucket bucket_is cannot s x in
+      let has_vs = held_now c taken addr size n flags p out v st held vs w back_out back wb bucket bucket_is cannot s x in
+      let has_back = back_now c taken addr size n flags p out v st held vs w back_out back wb bucket bucket_is cannot s x in
+      let reserved = low s m c.number addr n bucket first r flags p in_call has_vs has_back (cannot.said s x) bucket_is (cannot.refused s x) none there fits few (mine.old s x) (mine.leaves s x) in
+      let one = late_leads s m c.number addr n bucket first r flags p in_call has_vs has_back (cannot.said s x) bucket_is (cannot.refused s x) none there fits few (mine.old s x) (mine.leaves s x)
       (order_now c vs back n first r w.tells wb sound g s x) (outside s x first there reserved) in
       let e = lt-ltb (first / 256) a.reserved reserved in
       let here : SpanLeads s m c.number (span_acts a.reserved first n r) first n r = rw e one in
       subst (λ (k : ℕ). SpanLeads s m c.number (span_acts k first n r) first n r) (reserved_now c vs back n first r w.tells wb sound g s x) here
 
-  pub late_holds : HoldsForSpan c vs back n
-  late_holds = record {
-    stands = st;
-    sound = sound;
-    size = let l = few in omega (arith, l);
-    begun = ap is_some v.call_is;
-    inside = v.inside;
-    free = v.free;
-    held = ap (is_out whats.Vs) v.out_is ∙ held;
-    used = w.used;
-    tells_vs = w.tells;
-    tells_back = wb;
-    leads = leads;
-  }
+  -- its span and its place can be prepared wherever there is a range
+  pub span_ready : (first : ℕ) (r : Run) → HasRange vs back n first r → Always c (λ s. are_prepared s (now s c) c.number (by_all c.number (span_acts back.region.reserved first n r)) ≡ true)
+  span_ready first r g s x = (leads first r g s x).may
 
   module _ (t : Token) (later : VsKept) (more : Kept) (b : ℕ) (h : parts.HasHeldAnew c t vs later back more n b) (valid : AreValid c.opening.limits) (legal : IsLegalWith c.opening c.roll c.seen) where
     abbrev run : Run
@@ -163,9 +159,6 @@ module _ (c : Token) (addr size n : ℕ) (flags : Flags) (p : Place) (out : List
 
     abbrev q : Place
     q = new_place c.number layers.Vs (16 * run.first) run.count
-
-    block : HasNewBlock t (spanned c t vs later back more n b late_holds h) later n b run
-    block = new_here c t vs later back more n b late_holds h
 
     state_now : Always c (λ s. (now s (with_all c list)).state ≡ with_vs_block (now s c).state (with_segment (now s c).state.back.area h.first) c.number h.first n run)
     state_now s x = ap (λ (m : Configuration). m.state) (now_all s c list) ∙ (leads h.first run h.range s x).state
@@ -179,18 +172,17 @@ module _ (c : Token) (addr size n : ℕ) (flags : Flags) (p : Place) (out : List
         by layers.Back = refl
         by layers.Large = refl
 
-    pub anew_limits : later.limits ≡ t.opening.limits
-    anew_limits = here_limits c t vs later back more n b late_holds h
-
     pub anew_opening : t.opening ≡ c.opening
     anew_opening = ap (λ (y : Token). y.opening) h.prepared ∙ (added_all c list (span_no_begin back.region.reserved h.first n run)).goes.opening
 
+    pub anew_limits : later.limits ≡ t.opening.limits
+    anew_limits = span_limits c t vs later back more n b w wb sound h ∙ ap (λ (o : Opening). o.limits) (sym anew_opening)
+
     module _ (to : (16 * run.first + 16) / 8 + words_of n ≤ data_count c.opening.limits) where
-      anew_half : IsHalfway (with_all c list) (calls.Realloc addr n flags) addr size p (16 * run.first + 16) n q out
+      anew_half : IsHalfwayAny taken (with_all c list) (calls.Realloc addr n flags) addr size p (16 * run.first + 16) n q out
       anew_half =
-          late_half c addr size n flags p out v st valid legal list (span_no_begin back.region.reserved h.first n run) (16 * run.first) run.count (span_whole c back.region.reserved h.first n run) (span_few back.region.reserved h.first n run)
-          (span_pending c back.region.reserved h.first n run v.pending) (span_may c vs back n late_holds h.first run h.range) put_now (suits_run n c.number run (let l = few in omega (arith, l)) block.count)
-          (held_now c addr size n flags p out v st held vs w back_out back wb bucket bucket_is cannot) to
+          late_any taken c addr size n flags p out v st valid legal list (span_no_begin back.region.reserved h.first n run) (16 * run.first) run.count (span_whole c back.region.reserved h.first n run) (span_few back.region.reserved h.first n run)
+          (span_pending c back.region.reserved h.first n run mine.pending) (span_ready h.first run h.range) put_now (suits_run n c.number run (let l = few in omega (arith, l)) (span_count c t vs later back more n b w wb sound h)) (held_now c taken addr size n flags p out v st held vs w back_out back wb bucket bucket_is cannot) to
 
       anew_added : HasAdded c (with_all c list) list
       anew_added = added_all c list (span_no_begin back.region.reserved h.first n run)
@@ -204,33 +196,39 @@ module _ (c : Token) (addr size n : ℕ) (flags : Flags) (p : Place) (out : List
       abbrev reserve_it : Act
       reserve_it = acts.Reserve back.region.reserved
 
-      anew_made : HasMade c (with_all c list) p n q
+      anew_made : IsMadePlainly c (with_all c list) p n q
       anew_made = by (ltb (h.first / 256) back.region.reserved) refl
         where
-          by : (f : Bool) → ltb (h.first / 256) back.region.reserved ≡ f → HasMade c (with_all c list) p n q
+          by : (f : Bool) → ltb (h.first / 256) back.region.reserved ≡ f → IsMadePlainly c (with_all c list) p n q
           by true e =
               let is : list ≡ span_it ∷ place_it ∷ [] = rw e refl in
               record {
-                reserves = [];
-                begins = span_it;
-                more = place_it ∷ [];
-                added = subst (HasAdded c (with_all c list)) is anew_added;
-                begins_it = refl;
-                no_begin = refl;
-                shape_is = refl;
-                reserves_are = inl refl;
+                made = record {
+                  reserves = [];
+                  begins = span_it;
+                  more = place_it ∷ [];
+                  added = subst (HasAdded c (with_all c list)) is anew_added;
+                  begins_it = refl;
+                  no_begin = refl;
+                  shape_is = refl;
+                  reserves_are = inl refl;
+                };
+                plain = refl;
               }
           by false e =
               let is : list ≡ reserve_it ∷ span_it ∷ place_it ∷ [] = rw e refl in
               record {
-                reserves = reserve_it ∷ [];
-                begins = span_it;
-                more = place_it ∷ [];
-                added = subst (HasAdded c (with_all c list)) is anew_added;
-                begins_it = refl;
-                no_begin = refl;
-                shape_is = refl;
-                reserves_are = inr (back.region.reserved, refl, λ s x. leaves_still s (now s c) c.number back.region.reserved n p (let l = few in omega (arith, l)) (v.leaves s x));
+                made = record {
+                  reserves = reserve_it ∷ [];
+                  begins = span_it;
+                  more = place_it ∷ [];
+                  added = subst (HasAdded c (with_all c list)) is anew_added;
+                  begins_it = refl;
+                  no_begin = refl;
+                  shape_is = refl;
+                  reserves_are = inr (back.region.reserved, refl, λ s x. leaves_still s (now s c) c.number back.region.reserved n p (let l = few in omega (arith, l)) (mine.leaves s x));
+                };
+                plain = refl;
               }
 
       is_all : t ≡ with_all c list
@@ -238,12 +236,6 @@ module _ (c : Token) (addr size n : ℕ) (flags : Flags) (p : Place) (out : List
 
       before : (s : Setting) → IsSettingOf (with_all c list).opening (with_all c list).roll s → IsSettingOf c.opening c.roll s
       before s x = setting_before_all s c list x
-
-      same_setting : (s : Setting) → IsSettingOf (with_all c list).opening (with_all c list).roll s → IsSettingOf t.opening t.roll s
-      same_setting s x = subst (λ (y : Token). IsSettingOf y.opening y.roll s) (sym is_all) x
-
-      same_opening : (with_all c list).opening ≡ t.opening
-      same_opening = ap (λ (y : Token). y.opening) (sym is_all)
 
       number : (with_all c list).number ≡ c.number
       number = anew_added.goes.number
@@ -256,23 +248,23 @@ module _ (c : Token) (addr size n : ℕ) (flags : Flags) (p : Place) (out : List
           ap (λ (y : State). (with_given y c.number q n).vs) (state_now s x)
           ∙ (λ i. record { places = given_front c.number layers.Vs (16 * run.first) run.count n (now s c).state.vs.places i; active = (now s c).state.vs.active; served = (with_vs_block (now s c).state (with_segment (now s c).state.back.area h.first) c.number h.first n run).vs.served })
 
-      given_spans : (s : Setting) → IsSettingOf c.opening c.roll s → vs_spans (k s).back.area ≡ vs_spans (spanned c t vs later back more n b late_holds h s).back.area
+      given_spans : (s : Setting) → IsSettingOf c.opening c.roll s → vs_spans (k s).back.area ≡ vs_spans (spanned c t vs later back more n b w wb sound h s).back.area
       given_spans s x = ap (λ (y : State). vs_spans y.back.area) (state_now s x)
 
       tells_then : WillTellVs (with_all c list) q n later
       tells_then s x =
-          let y = before s x in let z = same_setting s x in
+          let y = before s x in
           subst (λ (j : ℕ). let g = with_given (now s (with_all c list)).state j q n in (leaves_whole g whats.Vs ≡ true) × StandsForVs (with_all c list).opening g (vss.layer_of later)) (sym number) (
-            (λ i. list_all (has_place 4096 (given_vs s y i).places) (given_spans s y i)) ∙ block.used s z,
-            subst (λ (o : Opening). StandsForVs o (k s) (vss.layer_of later)) (sym same_opening) (block.tells s z (k s) (given_vs s y) (given_spans s y)),
+            (λ i. list_all (has_place 4096 (given_vs s y i).places) (given_spans s y i)) ∙ span_used c t vs later back more n b w wb sound h s y,
+            subst (λ (o : Opening). StandsForVs o (k s) (vss.layer_of later)) (sym anew_added.goes.opening) (span_tells c t vs later back more n b w wb sound h s y (k s) (given_vs s y) (given_spans s y)),
           )
 
       back_then : WillTellBack (with_all c list) q n more
       back_then s x =
-          let z = same_setting s x in
-          let told = (here_back c t vs later back more n b late_holds h s z).1 in
-          let here = subst (λ (y : Token). StandsForBack y.opening (now s y).state (backs.layer_of more)) is_all told in
-          back_stands (with_all c list).opening (now s (with_all c list)).state (with_given (now s (with_all c list)).state (with_all c list).number q n) more here refl
+          let y = before s x in
+          let is : (with_given (now s (with_all c list)).state (with_all c list).number q n).back ≡ part_with (now s c).state.back (marked_run h.first (span_pages_of n) vs_mark) = ap (λ (z : State). z.back) (state_now s y) in
+          subst (λ (o : Opening). StandsForBack o (with_given (now s (with_all c list)).state (with_all c list).number q n) (backs.layer_of more)) (sym anew_added.goes.opening)
+          (span_back c t vs later back more n b w wb sound h s y (with_given (now s (with_all c list)).state (with_all c list).number q n) is)
 
       large_then : (large : LargeTable) → TellsLarge c large → WillTellLarge (with_all c list) q n large
       large_then large f s x =
@@ -280,13 +272,12 @@ module _ (c : Token) (addr size n : ℕ) (flags : Flags) (p : Place) (out : List
           subst (λ (o : Opening). StandsForLarge o (with_given (now s (with_all c list)).state (with_all c list).number q n) (larges.layer_of large)) (sym anew_added.goes.opening)
           (large_stands c.opening (now s c).state (with_given (now s (with_all c list)).state (with_all c list).number q n) large (f s y) (ap (λ (z : State). z.large) (state_now s y)))
 
-      pub anew_held : HasHeldBehind c t addr size n flags p out b later more
+      pub anew_held : HasHeldAnew taken c t addr size n flags p out b later more
       anew_held =
-          subst (λ (y : Token). HasHeldBehind c y addr size n flags p out b later more) (sym is_all) (subst (λ (a : ℕ). HasHeldBehind c (with_all c list) addr size n flags p out a later more) (sym h.at) (record {
+          subst (λ (y : Token). HasHeldAnew taken c y addr size n flags p out b later more) (sym is_all) (subst (λ (a : ℕ). HasHeldAnew taken c (with_all c list) addr size n flags p out a later more) (sym h.at) (record {
             place = q;
-            half = anew_half;
-            made = anew_made;
+            held = record { half = anew_half; made = anew_made.made; plain = anew_made.plain };
             vs = tells_then;
             back = back_then;
-            large = λ o. large_then;
+            large = large_then;
           }))

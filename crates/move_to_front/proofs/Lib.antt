@@ -10,7 +10,7 @@ pub mod BackEnded
 pub mod VsEnded
 pub mod Filled
 pub mod RunsBeside
-pub mod Areas
+pub mod MovingOn
 pub mod LateLaw
 pub mod LateHeld
 pub mod LateGap

@@ -109,22 +109,22 @@ module _ (a e d : Token) (addr size n : ℕ) (flags : Flags) (p : Place) (out : 
 pub moves_late : (c t u d : Token) (addr size n : ℕ) (flags : Flags) (p : Place) (out : List ℕ) (b : ℕ) (more : VsKept) (kept : Kept) (values : List ℕ) → IsMovingOn c addr size n flags p out → (x : HasHeldSettled c t addr size n flags p out b more kept)
     → length values ≡ words_of (min size n) → HasFilled t u (moving addr size b n flags.zero values) → HasChanged u d addr size b n → (later : VsKept) (last : Kept) → TellsLow d later last → MovesLate c d addr size n flags p b later last
 moves_late c t u d addr size n flags p out b more kept values v x count f e later last tells =
-    let few = x.held.half.few in let fill = f.few in let end = e.few in
+    let few = x.half.few in let fill = f.few in let end = e.few in
     record {
       moved = record {
-        place = x.held.place;
-        at = x.held.half.new.at;
+        place = x.place;
+        at = x.half.new.at;
         between = t;
-        made = x.held.made;
+        made = x.made;
         values = values;
         count = count;
         last = e.last;
         last_is = e.last_is;
         rest = added_then t u d (moving addr size b n flags.zero values) (acts.Take addr size ∷ acts.Give b n ∷ acts.Drop addr ∷ e.last) f.added e.added;
-        out_is = e.out_is ∙ (f.out_is ∙ (x.held.half.out_is ∙ sym v.out_is));
+        out_is = e.out_is ∙ (f.out_is ∙ (x.half.out_is ∙ sym v.out_is));
         whole = e.whole;
         free = e.free;
-        pending = e.pending ∙ f.pending x.held.half.pending;
+        pending = e.pending ∙ f.pending x.half.pending;
         few = omega (arith, few, fill, end);
       };
       prepared = x.prepared;

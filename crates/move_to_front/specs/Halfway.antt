@@ -1,5 +1,5 @@
 -- A new block of the front end in hand, for one that moves, and how the old one goes.
-use Rattle.std.specs.Prelude.{◌≡◌, ℕ, ◌+◌, ◌*◌, ◌/◌, ◌<◌, ◌≤◌, true, false, not, List, [], ◌∷◌, Some}
+use Rattle.std.specs.Prelude.{◌≡◌, ℕ, ◌+◌, ◌*◌, ◌/◌, ◌<◌, ◌≤◌, Bool, true, false, not, List, [], ◌∷◌, Some}
 use Rattle.std.specs.List.{list_all}
 use Rattle.heap_model.specs.declared.Act.{Act}
 use Rattle.heap_model.specs.declared.Act.TheVariants as acts
@@ -31,7 +31,7 @@ use Rattle.call_parts.specs.Entries.{HasAdded}
 use Rattle.move_front.specs.declared.front.Front.{Front}
 use Rattle.move_front.specs.declared.front.Front.TheVariants.{Held, Idle, NoRoom}
 use Rattle.move_front.specs.Front.{AreBefore}
-use Rattle.move_parts.specs.Moves.{IsHeld, IsHalfway, WillTellVs, WillTellBack, WillTellLarge, TellsLarge}
+use Rattle.move_parts.specs.Moves.{IsHeld, IsHalfway, IsMovingTaken, WillTellVs, WillTellBack, WillTellLarge, TellsLarge}
 use Rattle.move_parts.specs.Places.{HasMade}
 use Rattle.stay_calls.specs.Moments.{OfMoments}
 use Rattle.move_to_front.specs.Moved.{IsIdle, TellsLow}
@@ -112,6 +112,11 @@ pub record IsMovingOn (c : Token) (addr size n : ℕ) (flags : Flags) (p : Place
   pub from : addr / 8 + words_of size ≤ data_count c.opening.limits
   pub slots : have_slots c.opening.limits.slots c.roll ≡ true
 
+-- .. either this, or its old block was taken, by whether it was
+abbrev pub IsMovingOnAny : Bool → Token → ℕ → ℕ → ℕ → Flags → Place → List ℕ → Type 0
+IsMovingOnAny true c addr size n flags p out = IsMovingTaken c addr size n flags p out
+IsMovingOnAny false c addr size n flags p out = IsMovingOn c addr size n flags p out
+
 -- The front end has searched in vain, behind acts that leave what the caller holds.
 pub record IsBehindFront (old new : Token) (addr size n : ℕ) (flags : Flags) (p : Place) (out : List ℕ) (more : VsKept) (back kept : Kept) (bucket : ℕ) : Type 0 where
   pub its : List Act
@@ -128,18 +133,14 @@ HoldsNew old new addr size n flags p out vs more back kept bucket (Held b) = Has
 HoldsNew old new addr size n flags p out vs more back kept bucket Idle = IsIdle old new n vs more back kept
 HoldsNew old new addr size n flags p out vs more back kept bucket NoRoom = IsBehindFront old new addr size n flags p out more back kept bucket
 
--- A place of VS is prepared for n bytes, at b, and in hand. Once it is given, these states of VS and of the back end tell what is there.
-pub record HasHeldBehind (old new : Token) (addr size n : ℕ) (flags : Flags) (p : Place) (out : List ℕ) (b : ℕ) (more : VsKept) (kept : Kept) : Type 0 where
+-- A place of VS for n bytes is at b, and in hand, and nothing is prepared. Once it is given, these states of VS and of the back end tell what is there.
+pub record HasHeldSettled (old new : Token) (addr size n : ℕ) (flags : Flags) (p : Place) (out : List ℕ) (b : ℕ) (more : VsKept) (kept : Kept) : Type 0 where
   pub place : Place
   pub half : IsHalfway new (calls.Realloc addr n flags) addr size p b n place out
   pub made : HasMade old new p n place
   pub vs : WillTellVs new place n more
   pub back : WillTellBack new place n kept
   pub large : is_out whats.Large out ≡ true → (large : LargeTable) → TellsLarge old large → WillTellLarge new place n large
-
--- .. and nothing is prepared
-pub record HasHeldSettled (old new : Token) (addr size n : ℕ) (flags : Flags) (p : Place) (out : List ℕ) (b : ℕ) (more : VsKept) (kept : Kept) : Type 0 where
-  pub held : HasHeldBehind old new addr size n flags p out b more kept
   pub prepared : new.prepared ≡ []
   pub legal : IsLegalWith new.opening new.roll new.seen
 

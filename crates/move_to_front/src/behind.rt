@@ -1,5 +1,5 @@
 //! A block of the variable-size layer for one that moves, where the front end could not serve its bucket.
-ghost use Rattle.std.specs.Prelude.{◌≡◌, ℕ, List, Some, None, true, is_some, IfSome, IfNone};
+ghost use Rattle.std.specs.Prelude.{◌≡◌, Bool, ℕ, List, Some, None, true, is_some, IfSome, IfNone};
 ghost use Rattle.heap_model.specs.declared.Flags.{Flags as AFlags};
 ghost use Rattle.heap_model.specs.declared.What.TheVariants as whats;
 ghost use Rattle.heap_model.specs.Buckets.{bucket_of};
@@ -8,8 +8,8 @@ ghost use Rattle.heap_gate.specs.Token.{is_out};
 ghost use Rattle.lfh_search.specs.Under.{CannotBeServed};
 ghost use Rattle.vs_layer.specs.Kept.{place_for};
 ghost use Rattle.move_parts.specs.Moves.{TellsVs, TellsBack};
-ghost use Rattle.move_parts.specs.Places.{IsWithout};
-ghost use Rattle.move_to_front.specs.Halfway.{IsMovingOn, HasHeldBehind, HasHeldSettled};
+ghost use Rattle.move_parts.specs.Places.{HasHeldAnew, IsWithout};
+ghost use Rattle.move_to_front.specs.Halfway.{IsMovingOn, IsMovingOnAny, HasHeldSettled};
 
 use backend_fit::Back;
 use call_parts::State;
@@ -29,10 +29,10 @@ fn hold_gap(
 ) -> u64
     requires bucket { bucket_of n ≡ Some bucket }
     requires opening { c.old.opening ≡ heap.now.opening }
-    requires moving { (addr size : ℕ) × (flags : AFlags) × (p : Place) × (out : List ℕ) × IsMovingOn c.old addr size n flags p out × (is_out whats.Vs out ≡ true) × TellsVs c.old vs.old × (is_out whats.Back out ≡ true) × TellsBack c.old back.now }
+    requires moving { (taken : Bool) × (addr size : ℕ) × (flags : AFlags) × (p : Place) × (out : List ℕ) × IsMovingOnAny taken c.old addr size n flags p out × (is_out whats.Vs out ≡ true) × TellsVs c.old vs.old × (is_out whats.Back out ≡ true) × TellsBack c.old back.now }
     requires cannot { CannotBeServed c.old bucket }
     requires fits { is_some (place_for vs.old n) ≡ true }
-    ensures { (addr size : ℕ) (flags : AFlags) (p : Place) (out : List ℕ) → IsMovingOn c.old addr size n flags p out → is_out whats.Vs out ≡ true → TellsVs c.old vs.old → is_out whats.Back out ≡ true → TellsBack c.old back.now → HasHeldBehind c.old c.new addr size n flags p out result vs.new back.now }
+    ensures { (taken : Bool) (addr size : ℕ) (flags : AFlags) (p : Place) (out : List ℕ) → IsMovingOnAny taken c.old addr size n flags p out → is_out whats.Vs out ≡ true → TellsVs c.old vs.old → is_out whats.Back out ≡ true → TellsBack c.old back.now → HasHeldAnew taken c.old c.new addr size n flags p out result vs.new back.now }
 {
     let _limits = heap.limits();
     c.check();
@@ -53,10 +53,10 @@ fn hold_span(
 ) -> Option<u64>
     requires bucket { bucket_of n ≡ Some bucket }
     requires opening { c.old.opening ≡ heap.now.opening }
-    requires moving { (addr size : ℕ) × (flags : AFlags) × (p : Place) × (out : List ℕ) × IsMovingOn c.old addr size n flags p out × (is_out whats.Vs out ≡ true) × TellsVs c.old vs.old × (is_out whats.Back out ≡ true) × TellsBack c.old back.old }
+    requires moving { (taken : Bool) × (addr size : ℕ) × (flags : AFlags) × (p : Place) × (out : List ℕ) × IsMovingOnAny taken c.old addr size n flags p out × (is_out whats.Vs out ≡ true) × TellsVs c.old vs.old × (is_out whats.Back out ≡ true) × TellsBack c.old back.old }
     requires cannot { CannotBeServed c.old bucket }
     requires no_gap { place_for vs.old n ≡ None }
-    ensures held { IfSome result (λ b. (addr size : ℕ) (flags : AFlags) (p : Place) (out : List ℕ) → IsMovingOn c.old addr size n flags p out → is_out whats.Vs out ≡ true → TellsVs c.old vs.old → is_out whats.Back out ≡ true → TellsBack c.old back.old → HasHeldBehind c.old c.new addr size n flags p out b vs.new back.new) }
+    ensures held { IfSome result (λ b. (taken : Bool) (addr size : ℕ) (flags : AFlags) (p : Place) (out : List ℕ) → IsMovingOnAny taken c.old addr size n flags p out → is_out whats.Vs out ≡ true → TellsVs c.old vs.old → is_out whats.Back out ≡ true → TellsBack c.old back.old → HasHeldAnew taken c.old c.new addr size n flags p out b vs.new back.new) }
     ensures none { IfNone result (IsWithout c.old c.new n × (vs.new ≡ vs.old) × (back.new ≡ back.old)) }
 {
     let _limits = heap.limits();
@@ -71,8 +71,8 @@ fn hold_span(
 }
 
 /// Has a new block of `n` bytes of the variable-size layer in hand, where the front end cannot serve its bucket: in the smallest gap that
-/// holds it, or in a subsegment that is made for it. Where no range is there for it, nothing changes.
-fn hold_behind(
+/// holds it, or in a subsegment that is made for it. Where no range is there for it, nothing changes. The old block is live, or was taken.
+pub fn hold_behind(
     heap: &Heap<State>,
     c: &mut Caller<State>,
     vs: &mut Vs,
@@ -82,9 +82,9 @@ fn hold_behind(
 ) -> Option<u64>
     requires bucket { bucket_of n ≡ Some bucket }
     requires opening { c.old.opening ≡ heap.now.opening }
-    requires moving { (addr size : ℕ) × (flags : AFlags) × (p : Place) × (out : List ℕ) × IsMovingOn c.old addr size n flags p out × (is_out whats.Vs out ≡ true) × TellsVs c.old vs.old × (is_out whats.Back out ≡ true) × TellsBack c.old back.old }
+    requires moving { (taken : Bool) × (addr size : ℕ) × (flags : AFlags) × (p : Place) × (out : List ℕ) × IsMovingOnAny taken c.old addr size n flags p out × (is_out whats.Vs out ≡ true) × TellsVs c.old vs.old × (is_out whats.Back out ≡ true) × TellsBack c.old back.old }
     requires cannot { CannotBeServed c.old bucket }
-    ensures held { IfSome result (λ b. (addr size : ℕ) (flags : AFlags) (p : Place) (out : List ℕ) → IsMovingOn c.old addr size n flags p out → is_out whats.Vs out ≡ true → TellsVs c.old vs.old → is_out whats.Back out ≡ true → TellsBack c.old back.old → HasHeldBehind c.old c.new addr size n flags p out b vs.new back.new) }
+    ensures held { IfSome result (λ b. (taken : Bool) (addr size : ℕ) (flags : AFlags) (p : Place) (out : List ℕ) → IsMovingOnAny taken c.old addr size n flags p out → is_out whats.Vs out ≡ true → TellsVs c.old vs.old → is_out whats.Back out ≡ true → TellsBack c.old back.old → HasHeldAnew taken c.old c.new addr size n flags p out b vs.new back.new) }
     ensures none { IfNone result (IsWithout c.old c.new n × (vs.new ≡ vs.old) × (back.new ≡ back.old)) }
 {
     if vs.fit(n) {
@@ -93,7 +93,7 @@ fn hold_behind(
     hold_span(heap, c, vs, back, n, bucket)
 }
 
-/// As [`hold_behind`], and what is prepared is in the list then.
+/// As [`hold_behind`], for a live block, and what is prepared is in the list then.
 pub(crate) fn hold_settled(
     heap: &Heap<State>,
     c: &mut Caller<State>,

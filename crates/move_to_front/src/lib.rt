@@ -12,4 +12,5 @@ mod hold;
 mod late;
 mod moves;
 
+pub use behind::hold_behind;
 pub use moves::{ToFront, move_back_to_front, move_large_to_front, move_vs_to_front};

@@ -220,7 +220,7 @@ module _ (k : Token) (call : Call) (vs : VsKept) (back : Kept) (h : HoldsBoth k 
     abbrev pub size : ℕ
     size = 4096 * r.pages - r.mark.unused
 
-    found_now : Always k (λ s. find (has_address addr) (now s k).state.back.places ≡ Some (place_of r))
+    pub found_now : Always k (λ s. find (has_address addr) (now s k).state.back.places ≡ Some (place_of r))
     found_now s q = place_at_address k.opening (now s k).state back (h.tells_back s q) sound addr ∙ ap (option_map place_of) f
 
     first_now : Always k (λ s. find (has_address addr) (exclusive_places (now s k).state k.number) ≡ Some (place_of r))

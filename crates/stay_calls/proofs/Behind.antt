@@ -30,6 +30,7 @@ use Rattle.address_calls.specs.Answers.{MayGuard, MeetsOn}
 use Rattle.address_calls.specs.declared.look.Found.{Found}
 use Rattle.address_calls.specs.declared.look.Found.TheVariants as founds
 use Rattle.address_calls.specs.Finds.{Looks}
+use Rattle.address_calls.proofs.Behind.{none_moves-append}
 use Rattle.stay_calls.specs.declared.tried.Tried.{Tried}
 use Rattle.stay_calls.specs.declared.tried.Tried.TheVariants as trieds
 use Rattle.stay_calls.specs.Moments.{MakesSo}
@@ -39,7 +40,7 @@ use Rattle.stay_calls.proofs.Histories.{joined, acts_added}
 ---- Moments behind others of which no shape shows anything
 
 -- an act that shapes show is none of those that none shows
-none_shown : (test : Act → Bool) → ((act : Act) → test act ≡ true → is_left_out act ≡ false) → (xs : List Act) → shape_of xs ≡ [] → list_any test xs ≡ false
+pub none_shown : (test : Act → Bool) → ((act : Act) → test act ≡ true → is_left_out act ≡ false) → (xs : List Act) → shape_of xs ≡ [] → list_any test xs ≡ false
 none_shown test h [] e = refl
 none_shown test h (x ∷ xs) e = elim (cases_Bool (is_left_out x)) [
   | inl l ↦
@@ -55,7 +56,7 @@ resize_shown : (act : Act) → is_resize act ≡ true → is_left_out act ≡ fa
 resize_shown (acts.Resize a granules size) h = refl
 resize_shown _ h = absurd (false≢true h)
 
-take_shown : (act : Act) → is_take act ≡ true → is_left_out act ≡ false
+pub take_shown : (act : Act) → is_take act ≡ true → is_left_out act ≡ false
 take_shown (acts.Take a size) h = refl
 take_shown _ h = absurd (false≢true h)
 
@@ -63,18 +64,18 @@ sized_shown : (act : Act) → is_sized act ≡ true → is_left_out act ≡ fals
 sized_shown (acts.Sized a size) h = refl
 sized_shown _ h = absurd (false≢true h)
 
-before_later : (test : Act → Bool) (P : State → Type 0) (xs ys : List Moment) → list_any test (acts_of xs) ≡ false → Before test P ys → Before test P (xs ++ ys)
+pub before_later : (test : Act → Bool) (P : State → Type 0) (xs ys : List Moment) → list_any test (acts_of xs) ≡ false → Before test P ys → Before test P (xs ++ ys)
 before_later test P [] ys none h = h
 before_later test P (x ∷ xs) ys none h = elim (cases_Bool (test x.act)) [
   | inl e ↦ let bad : true ≡ false = rw e at none in absurd (true≢false bad)
   | inr e ↦ rw e (before_later test P xs ys (rw e at none) h)
 ]
 
-acts_joined : (xs ys : List Moment) → acts_of (xs ++ ys) ≡ acts_of xs ++ acts_of ys
+pub acts_joined : (xs ys : List Moment) → acts_of (xs ++ ys) ≡ acts_of xs ++ acts_of ys
 acts_joined [] ys = refl
 acts_joined (x ∷ xs) ys = ap (λ (l : List Act). x.act ∷ l) (acts_joined xs ys)
 
-shown_later : (xs ys : List Moment) → shape_of (acts_of xs) ≡ [] → shown (xs ++ ys) ≡ shown ys
+pub shown_later : (xs ys : List Moment) → shape_of (acts_of xs) ≡ [] → shown (xs ++ ys) ≡ shown ys
 shown_later xs ys e = ap shape_of (acts_joined xs ys) ∙ (shape-append (acts_of xs) (acts_of ys) ∙ (λ i. e i ++ shape_of (acts_of ys)))
 
 module _ (s : Setting) (c a n : ℕ) (xs ys : List Moment) (e : shape_of (acts_of xs) ≡ []) where
@@ -112,6 +113,7 @@ looks_then a b c x y = record {
   rest = x.rest ++ y.rest;
   added = added_then a b c x.rest y.rest x.added y.added;
   no_begin = none_begins-append x.rest y.rest x.no_begin y.no_begin;
+  no_move = none_moves-append x.rest y.rest x.no_move y.no_move;
   shape_is = shape-append x.rest y.rest ∙ (λ j. x.shape_is j ++ y.shape_is j);
 }
 
@@ -133,8 +135,11 @@ module _ (a b d : Token) (x : Looks a b) (na : a.prepared ≡ []) (nb : b.prepar
     abbrev later : List Moment
     later = moments s a.number (configuration_of s b.seen) more
 
+    its_acts : acts_of its ≡ x.rest
+    its_acts = acts_added a b x.rest x.added.goes na nb x.added.goes.seen s (configuration_of s a.seen)
+
     its_show : shape_of (acts_of its) ≡ []
-    its_show = ap shape_of (acts_added a b x.rest x.added.goes na nb x.added.goes.seen s (configuration_of s a.seen)) ∙ x.shape_is
+    its_show = ap shape_of its_acts ∙ x.shape_is
 
     both : moments s a.number (configuration_of s a.seen) (x.added.goes.seen.0 ++ more) ≡ its ++ later
     both =
@@ -142,7 +147,7 @@ module _ (a b d : Token) (x : Looks a b) (na : a.prepared ≡ []) (nb : b.prepar
         ∙ ap (λ (m : Configuration). its ++ moments s a.number m more) (sym (after-append s first_configuration a.seen x.added.goes.seen.0) ∙ ap (configuration_of s) x.added.goes.seen.1)
 
   -- what is told of the part is told of it behind the look-up
-  told_behind : (Told : Setting → ℕ → List Moment → Type 0) → ((s : Setting) (c : ℕ) (xs ys : List Moment) → shape_of (acts_of xs) ≡ [] → Told s c ys → Told s c (xs ++ ys)) → (call : Call) → MakesSo b d call Told → MakesSo a d call Told
+  pub told_behind : (Told : Setting → ℕ → List Moment → Type 0) → ((s : Setting) (c : ℕ) (xs ys : List Moment) → acts_of xs ≡ x.rest → Told s c ys → Told s c (xs ++ ys)) → (call : Call) → MakesSo b d call Told → MakesSo a d call Told
   told_behind Told f call m = record {
     shape = m.shape;
     makes = makes_behind call m.shape m.makes;
@@ -150,7 +155,7 @@ module _ (a b d : Token) (x : Looks a b) (na : a.prepared ≡ []) (nb : b.prepar
         let made = makes_behind call m.shape m.makes in
         let more = m.makes.goes.seen.0 in
         let h : Told s a.number (later s more) = subst (λ (c : ℕ). Told s c (moments s c (configuration_of s b.seen) more)) x.added.goes.number (m.told s q) in
-        let whole = subst (Told s a.number) (sym (both s more)) (f s a.number (its s more) (later s more) (its_show s more) h) in
+        let whole = subst (Told s a.number) (sym (both s more)) (f s a.number (its s more) (later s more) (its_acts s more) h) in
         subst (λ (l : List Entry). Told s a.number (moments s a.number (configuration_of s a.seen) l)) (sym (joined a.seen b.seen d.seen made.goes.seen x.added.goes.seen m.makes.goes.seen)) whole;
   }
 
@@ -158,6 +163,7 @@ module _ (a b d : Token) (x : Looks a b) (na : a.prepared ≡ []) (nb : b.prepar
   taken_behind addr size n tag y = record {
     looks = x.rest ++ y.looks;
     no_begin = none_begins-append x.rest y.looks x.no_begin y.no_begin;
+    no_move = none_moves-append x.rest y.looks x.no_move y.no_move;
     shape_is = shape-append x.rest y.looks ∙ (λ j. x.shape_is j ++ y.shape_is j);
     added = all;
     leaves = λ s q.
@@ -172,6 +178,8 @@ module _ (a b d : Token) (x : Looks a b) (na : a.prepared ≡ []) (nb : b.prepar
     one = y.one;
     read = y.read;
     number = y.number;
+    no_span = y.no_span;
+    search = y.search;
   }
     where
       all : HasAdded a d ((x.rest ++ y.looks) ++ acts.Take addr size ∷ [])
@@ -199,9 +207,9 @@ module _ (a b d : Token) (x : Looks a b) (na : a.prepared ≡ []) (nb : b.prepar
   pub tried_behind : (addr n : ℕ) (flags : Flags) (r : Result Tried ReNo) → IsTried b d addr n flags r → IsTried a d addr n flags r
   tried_behind addr n flags (Ok trieds.Stays) y =
       told_behind (λ s c xs. IsResized s c addr n flags.zero xs ⊎ IsGivenAgain s c addr n flags.zero xs)
-      (λ s c xs ys e h. elim h [ inl k ↦ inl (resized_later s c addr n xs ys e k) | inr k ↦ inr (given_later s c addr n xs ys e k) ]) (calls.Realloc addr n flags) y
+      (λ s c xs ys e h. elim h [ inl k ↦ inl (resized_later s c addr n xs ys (ap shape_of e ∙ x.shape_is) k) | inr k ↦ inr (given_later s c addr n xs ys (ap shape_of e ∙ x.shape_is) k) ]) (calls.Realloc addr n flags) y
   tried_behind addr n flags (Ok (trieds.Moves found size)) y = (y.0, move_behind addr size n found y.1)
   tried_behind addr n flags (Err re_nos.NotLive) y = makes_behind (calls.Realloc addr n flags) (acts.NotLive addr ∷ []) y
-  tried_behind addr n flags (Err re_nos.NoRoomInPlace) y = (y.0, told_behind (λ s c xs. HasNoRoom s c addr n xs) (λ s c xs ys e h. no_room_later s c addr n xs ys e h) (calls.Realloc addr n flags) y.1)
+  tried_behind addr n flags (Err re_nos.NoRoomInPlace) y = (y.0, told_behind (λ s c xs. HasNoRoom s c addr n xs) (λ s c xs ys e h. no_room_later s c addr n xs ys (ap shape_of e ∙ x.shape_is) h) (calls.Realloc addr n flags) y.1)
   tried_behind addr n flags (Err (re_nos.Busy w)) y = meets_behind addr w y
   tried_behind addr n flags (Err re_nos.NoFit) y = y

@@ -1,7 +1,7 @@
 -- How a block that is found under its layer's lock ends: resized where it is, left as it was, or to be moved.
 use Rattle.std.proofs.Common.{◌≡◌, ℕ, zero, suc, ◌+◌, ◌-◌, ◌/◌, ◌≤◌, Bool, true, false, not, List, [], ◌∷◌, ◌++◌, length, Some, refl, sym, ap, ◌∙◌, subst, arith, inl}
 use Rattle.std.specs.Prelude.{is_some}
-use Rattle.std.specs.List.{list_any}
+use Rattle.std.specs.List.{find, list_any}
 use Rattle.std.proofs.lemmas.Bool.{true≢false}
 use Rattle.heap_model.specs.declared.Act.{Act}
 use Rattle.heap_model.specs.declared.Act.TheVariants as acts
@@ -9,9 +9,10 @@ use Rattle.heap_model.specs.declared.Call.{Call}
 use Rattle.heap_model.specs.declared.Call.TheVariants as calls
 use Rattle.heap_model.specs.declared.Flags.{Flags}
 use Rattle.heap_model.specs.Geometry.{words_of}
-use Rattle.heap_model.specs.State.{State, Place, hands}
+use Rattle.heap_model.specs.State.{State, Place, Live, is_layer, has_address, places_of, hands}
 use Rattle.heap_model.specs.CallState.{Configuration}
 use Rattle.heap_model.specs.History.{configuration_of}
+use Rattle.heap_model.specs.declared.Layer.{Layer}
 use Rattle.heap_model.specs.declared.Layer.TheVariants as layers
 use Rattle.heap_model.specs.Shape.{shape_of, zeros, zeroing_more, is_resize, is_sized, Finds}
 use Rattle.claim_rule.specs.Entries.{IsLegalWith, may_prepare}
@@ -64,7 +65,7 @@ is_on false h = absurd (true≢false h)
 
 -- nothing was done to find it
 pub looks_none : (c : Token) → Looks c c
-looks_none c = record { rest = []; added = added_none c; no_begin = refl; shape_is = refl }
+looks_none c = record { rest = []; added = added_none c; no_begin = refl; no_move = refl; shape_is = refl }
 
 -- The caller finds so, in each setting that it knows of.
 abbrev pub AllFound : Token → ℕ → Place → ℕ → ℕ → Bool → Type 0
@@ -73,8 +74,14 @@ AllFound c addr p size n stays = Always c (λ s. IsFoundAt s (now s c) c.number 
 abbrev pub AllGrow : Token → ℕ → Place → ℕ → ℕ → ℕ → Type 0
 AllGrow c addr p size n granules = Always c (λ s. MayGrow s (now s c) c.number addr p size n granules)
 
-pub has_to_move : (c : Token) (addr : ℕ) (p : Place) (size n : ℕ) → AllFound c addr p size n false → HasToMove c addr size n
-has_to_move c addr p size n x s q = let y = x s q in (p, y.live, finds s (now s c) c.number addr p size n false y)
+pub has_to_move : (c : Token) (addr : ℕ) (p : Place) (size n : ℕ) (layer : Layer) → p.layer ≡ layer → p.status ≡ Live size → is_layer p.layer layers.Lfh ≡ false → Always c (λ s. find (has_address addr) (places_of (now s c).state p.layer) ≡ Some p) → AllFound c addr p size n false
+    → HasToMove c layer addr size n
+has_to_move c addr p size n layer e live behind there x = (
+  p,
+  e,
+  record { live = live; behind = behind; there = there; touch = λ s q. (x s q).touch; leaves = λ s q. (x s q).stays_is },
+  λ s q. finds s (now s c) c.number addr p size n false (x s q),
+)
 
 ---- It is resized
 

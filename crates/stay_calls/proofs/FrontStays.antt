@@ -17,7 +17,7 @@ use Rattle.heap_model.specs.declared.What.TheVariants as whats
 use Rattle.heap_model.specs.Buckets.{block_size}
 use Rattle.heap_model.specs.Geometry.{words_of}
 use Rattle.heap_model.specs.State.{Setting, State, Place, Status, Live, InHand, is_layer, is_live, is_live_of, is_live_at, is_in_hand_of, has_address, in_hand, hands, hand_at, places_of, holds, guarded, exclusive_places, all_places, place_at, change_found}
-use Rattle.heap_model.specs.CallState.{Configuration, caller_view}
+use Rattle.heap_model.specs.CallState.{Configuration, CallState, caller_view, not_begun}
 use Rattle.heap_model.specs.Legal.{after, may_touch, with_places, with_status, layer_of}
 use Rattle.heap_model.specs.History.{configuration_of}
 use Rattle.heap_model.specs.Agreement.{AgreesFor, HasHomes}
@@ -30,6 +30,7 @@ use Rattle.heap_soundness.specs.Sound.{IsOneOf}
 use Rattle.heap_soundness.proofs.Lists.{all_at, found_in}
 use Rattle.claim_rule.specs.Entries.{IsSettingOf, IsLegalWith, entry}
 use Rattle.serial_laws.proofs.Found.{find_front}
+use Rattle.call_laws.proofs.Within.{updated_here}
 use Rattle.step_parts.specs.InHand.{HasBlock}
 use Rattle.heap_gate.specs.Token.{Token, Always, now, IsStanding, is_out}
 use Rattle.lfh_claims.specs.declared.tag.Tag.{Tag}
@@ -207,6 +208,11 @@ module _ (st : State) (homes : HasHomes st) (c a size : ℕ) (none : hands st c 
 
 ---- The caller
 
+-- a call that has neither begun a search nor said that a bucket has no span
+pub record HasNotSearched (k : CallState) : Type 0 where
+  pub no_span : k.no_span ≡ false
+  pub search : k.search ≡ not_begun
+
 -- where the block was found, and how long it was
 pub record IsFoundFront (s : Setting) (st : State) (c a n b : ℕ) : Type 0 where
   pub place : Place
@@ -266,6 +272,10 @@ module _ (a b : Token) (own_call : Call) (tag : Tag) (addr size n : ℕ) (v : Is
           finds = (row.1, rw e (ap (λ (k : ℕ). leb n 16368 && leb n k) long));
         }
 
+    -- the call has taken the block, and is else as it was
+    pub call_now : (now s b).now.calls a.number ≡ record ((now s a).now.calls a.number) { taken = true }
+    call_now = last.call ∙ (updated_here m.now.calls a.number (record (m.now.calls a.number) { taken = true }) ∙ ap (λ (k : CallState). record k { taken = true }) agrees.call)
+
     pub taken_before : (p : IsPrefix a.seen b.seen) (P : State → Type 0) → P m.state → Before is_take P (moments s a.number (configuration_of s a.seen) p.0)
     taken_before p P h = found_before a b take_it [] taken v.prepared nb legal s q a [] (goes_none a) v.prepared p is_take refl refl P h
 
@@ -305,10 +315,18 @@ module _ (a b : Token) (own_call : Call) (tag : Tag) (addr size n : ℕ) (flags 
 
   ---- It is to move
 
+  call_then : IsLegalWith b.opening b.roll b.seen → Always b (λ s. HasNotSearched ((now s b).now.calls b.number))
+  call_then legal s q =
+      let is = call_now a b own_call tag addr size n v sa x legal s q in
+      let new = v.is_new s (setting_before a b takes take_added.goes s q) in
+      subst (λ (c : ℕ). HasNotSearched ((now s b).now.calls c)) (sym x.takes.does.number)
+      (record { no_span = ap (λ (k : CallState). k.no_span) is ∙ new.no_span; search = ap (λ (k : CallState). k.search) is ∙ new.search })
+
   pub to_move : Always a (λ s. MayAsk (now s a) a.number tag.head tag.bucket tag.slot addr) → IsLegalWith b.opening b.roll b.seen → (leb n 16368 && leb n (block_size tag.bucket)) ≡ false → IsTakenToMove a b addr tag size n
   to_move may legal leaves = record {
     looks = [];
     no_begin = refl;
+    no_move = refl;
     shape_is = refl;
     added = take_added;
     leaves = λ s q.
@@ -320,6 +338,8 @@ module _ (a b : Token) (own_call : Call) (tag : Tag) (addr size n : ℕ) (flags 
     read = read_stays a b (entry a.number (acts.Take addr size) ∷ []) x.takes.does (ap (λ (l : List Entry). all_stay (l ++ entry a.number (acts.Take addr size) ∷ [])) v.prepared) (ap all_leave_spans v.prepared)
         (λ s q. (may s q).inside) tag.head tag.bucket tag.slot (λ s q. (may s q).seen);
     number = x.number;
+    no_span = λ s q. (call_then legal s q).no_span;
+    search = λ s q. (call_then legal s q).search;
   }
 
   ---- It is given again

@@ -124,7 +124,7 @@ module _ (k : Token) (call : Call) (large : LargeTable) (h : HoldsLarge k call l
   ---- A block
 
   module _ (b : LargeBlock) (found : find (is_at addr) large.blocks ≡ Some b) (n : ℕ) where
-    among_now : Always k (λ s. find (has_address addr) (now s k).state.large ≡ Some (place_of b))
+    pub among_now : Always k (λ s. find (has_address addr) (now s k).state.large ≡ Some (place_of b))
     among_now s q = place_at_address large k.opening (now s k).state (h.tells s q) sound.laid addr b found
 
     pub large_found : (stays : Bool) → InEach large (λ o st'. TellsStay o st' addr n stays) → AllFound k addr (place_of b) b.size n stays

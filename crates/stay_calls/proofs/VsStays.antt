@@ -10,6 +10,7 @@ use Rattle.heap_model.specs.declared.What.TheVariants as whats
 use Rattle.heap_model.specs.Geometry.{units_of}
 use Rattle.heap_model.specs.Ranges.{vs_spans, taken_of}
 use Rattle.heap_model.specs.Runs.{Run}
+use Rattle.heap_model.specs.State.{places_of as places_of_layer}
 use Rattle.heap_model.specs.State.{Setting, State, Span, Place, Status, Live, is_live, is_layer, live_size, has_address, is_live_at, hands, holds, change_found}
 use Rattle.heap_model.specs.Stay.{run_from, lets_stay, resized}
 use Rattle.heap_model.specs.CallState.{Configuration, caller_view}
@@ -157,6 +158,10 @@ module _ (k : Token) (vs : VsKept) (h : HasVs k vs) (st : IsStanding k) (addr si
 
   pub found_now : Always k (λ s. find (has_address addr) (now s k).state.vs.places ≡ Some b.place)
   found_now s q = sym (block_is k.opening (now s k).state vs (h.holds.tells s q) addr) ∙ b.there
+
+  -- .. so it is among the places of its layer
+  pub vs_there : Always k (λ s. find (has_address addr) (places_of_layer (now s k).state b.place.layer) ≡ Some b.place)
+  vs_there s q = ap (λ (l : Layer). find (has_address addr) (places_of_layer (now s k).state l)) b.layer ∙ found_now s q
 
   not_front : is_layer b.place.layer layers.Lfh ≡ false
   not_front = ap (λ (l : Layer). is_layer l layers.Lfh) b.layer

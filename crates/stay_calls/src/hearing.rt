@@ -37,7 +37,8 @@ fn hear_by<T: Stands, E: Carried>(top: &Table<T>, place: &mut Seating<T>, _prepa
     top.load::<HearsCallers<E>>(place, MADE);
 }
 
-/// One load.
+/// One load, behind which a caller knows that each entry that it has seen is of a caller that it knows of, and that each of these has
+/// a slot of the heap.
 pub fn hear(heap: &Heap<State>, c: &mut Caller<State>)
     requires table { c.old.table ≡ heap.now.table }
     requires whole { c.old.whole ≡ true }

@@ -104,7 +104,7 @@ fn let_large_go(heap: &Heap, c: &mut Caller, vs: &Vs, back: &Back, large: Large)
 }
 
 // Enters, and takes the locks of all layers.
-fn hold_all(rt: &impl Abort, heap: &Heap, c: &mut Caller) -> (Vs, Back, Large)
+pub(super) fn hold_all(rt: &impl Abort, heap: &Heap, c: &mut Caller) -> (Vs, Back, Large)
     requires { IsFreeCaller heap.now c.old }
     ensures { HoldsAll heap.now c.new result.0 result.1 result.2 }
 {
@@ -114,7 +114,7 @@ fn hold_all(rt: &impl Abort, heap: &Heap, c: &mut Caller) -> (Vs, Back, Large)
     (vs, back, large)
 }
 
-fn let_all_go(heap: &Heap, c: &mut Caller, vs: Vs, back: Back, large: Large)
+pub(super) fn let_all_go(heap: &Heap, c: &mut Caller, vs: Vs, back: Back, large: Large)
     requires { HoldsAll heap.now c.old vs back large }
     ensures { IsFreeCaller heap.now c.new }
 {
@@ -124,7 +124,7 @@ fn let_all_go(heap: &Heap, c: &mut Caller, vs: Vs, back: Back, large: Large)
 }
 
 // The second caller holds this lock.
-fn held(what: What) -> Busy {
+pub(super) fn held(what: What) -> Busy {
     Busy { what, word: 2 }
 }
 
@@ -228,7 +228,7 @@ fn the_front_end_serves_while_all_locks_are_held(rt: HostRuntime) -> Result<(), 
 }
 
 // The first block of the subsegment at page 18.
-const BLOCK: u64 = 76720;
+pub(super) const BLOCK: u64 = 76720;
 
 // The tag of the page, which is the head of a subsegment of 16 bytes and slot 0.
 fn read_tag(rt: &impl Abort, heap: &Heap, c: &mut Caller) -> Tag
@@ -261,7 +261,7 @@ fn take_block(rt: &impl Abort, heap: &Heap, c: &mut Caller)
 }
 
 // A caller that stays inside has the block in hand.
-fn take_in_hand(rt: &impl Abort, heap: &Heap, c: &mut Caller)
+pub(super) fn take_in_hand(rt: &impl Abort, heap: &Heap, c: &mut Caller)
     requires { IsFreeCaller heap.now c.old }
     ensures { HasInHand heap.now c.new 76720 }
 {
@@ -271,7 +271,7 @@ fn take_in_hand(rt: &impl Abort, heap: &Heap, c: &mut Caller)
 
 // .. and makes it live again.
 #[tactic(auto, using(crate::proofs::Callers::may_publish, crate::proofs::Callers::published_goes))]
-fn put_back(heap: &Heap, c: &mut Caller)
+pub(super) fn put_back(heap: &Heap, c: &mut Caller)
     requires { HasInHand heap.now c.old 76720 }
     ensures { IsFreeCaller heap.now c.new }
 {

@@ -12,7 +12,7 @@ use Rattle.address_calls.proofs.drops.drop_block.Goals as goal
 pub returns-in-Some-clause-dropped : goal.returns-in-Some-clause-dropped
 returns-in-Some-clause-dropped c =
     let a = c.args.c.now in let b = c.find_front.new.c in let d = c.drop_front.new.c in
-    drops_behind a b d (looks_by a b [] c.find_front.ensures.added refl refl) c.args.addr c.drop_front.result (front_drops b d c.args.addr c.drop_front.result c.drop_front.ensures)
+    drops_behind a b d (looks_by a b [] c.find_front.ensures.added refl refl refl) c.args.addr c.drop_front.result (front_drops b d c.args.addr c.drop_front.result c.drop_front.ensures)
 
 pub returns-in-Some-clause-tagged : goal.returns-in-Some-clause-tagged
 returns-in-Some-clause-tagged c = λ k.
@@ -24,13 +24,13 @@ drop_elsewhere-requires-clause-table c = let g = c.find_front.ensures.added.goes
 pub returns-in-None-clause-dropped : goal.returns-in-None-clause-dropped
 returns-in-None-clause-dropped c =
     let a = c.args.c.now in let b = c.find_front.new.c in let d = c.drop_elsewhere.new.c in
-    if_ok_then c.drop_elsewhere.result (λ (did : Bool). Drops b d c.args.addr did) (λ (did : Bool). Drops a d c.args.addr did) (drops_behind a b d (looks_by a b [] c.find_front.ensures.added refl refl) c.args.addr)
+    if_ok_then c.drop_elsewhere.result (λ (did : Bool). Drops b d c.args.addr did) (λ (did : Bool). Drops a d c.args.addr did) (drops_behind a b d (looks_by a b [] c.find_front.ensures.added refl refl refl) c.args.addr)
     c.drop_elsewhere.ensures.dropped
 
 pub returns-in-None-clause-busy : goal.returns-in-None-clause-busy
 returns-in-None-clause-busy c =
     let a = c.args.c.now in let b = c.find_front.new.c in let d = c.drop_elsewhere.new.c in
-    err_then c.drop_elsewhere.result (λ (w : Busy). MeetsOn b d c.args.addr w) (λ (w : Busy). MeetsOn a d c.args.addr w) (meets_behind a b d (looks_by a b [] c.find_front.ensures.added refl refl) c.args.addr)
+    err_then c.drop_elsewhere.result (λ (w : Busy). MeetsOn b d c.args.addr w) (λ (w : Busy). MeetsOn a d c.args.addr w) (meets_behind a b d (looks_by a b [] c.find_front.ensures.added refl refl refl) c.args.addr)
     c.drop_elsewhere.ensures.busy
 
 pub returns-in-None-clause-tagged : goal.returns-in-None-clause-tagged

@@ -14,19 +14,19 @@ hold_settled-requires-clause-moving c = let h = c.requires.moving in (c.args.add
 pub move_words-requires-clause-table : goal.move_words-requires-clause-table
 move_words-requires-clause-table c =
     let h = c.requires.moving in let x = c.in-Some.ensures.held c.args.addr c.args.size h.0 h.1 h.2 h.3 h.5 h.6 h.7 h.8 in
-    (x.held.made.added.goes.table ∙ c.requires.table.0, x.held.made.added.goes.opening ∙ c.requires.table.1)
+    (x.made.added.goes.table ∙ c.requires.table.0, x.made.added.goes.opening ∙ c.requires.table.1)
 
 pub move_words-requires-clause-whole : goal.move_words-requires-clause-whole
-move_words-requires-clause-whole c = let h = c.requires.moving in let x = c.in-Some.ensures.held c.args.addr c.args.size h.0 h.1 h.2 h.3 h.5 h.6 h.7 h.8 in x.held.half.new.whole
+move_words-requires-clause-whole c = let h = c.requires.moving in let x = c.in-Some.ensures.held c.args.addr c.args.size h.0 h.1 h.2 h.3 h.5 h.6 h.7 h.8 in x.half.new.whole
 
 pub move_words-requires-clause-inside : goal.move_words-requires-clause-inside
-move_words-requires-clause-inside c = let h = c.requires.moving in let x = c.in-Some.ensures.held c.args.addr c.args.size h.0 h.1 h.2 h.3 h.5 h.6 h.7 h.8 in x.held.half.new.inside
+move_words-requires-clause-inside c = let h = c.requires.moving in let x = c.in-Some.ensures.held c.args.addr c.args.size h.0 h.1 h.2 h.3 h.5 h.6 h.7 h.8 in x.half.new.inside
 
 pub move_words-requires-clause-from : goal.move_words-requires-clause-from
-move_words-requires-clause-from c = let h = c.requires.moving in let x = c.in-Some.ensures.held c.args.addr c.args.size h.0 h.1 h.2 h.3 h.5 h.6 h.7 h.8 in x.held.half.from
+move_words-requires-clause-from c = let h = c.requires.moving in let x = c.in-Some.ensures.held c.args.addr c.args.size h.0 h.1 h.2 h.3 h.5 h.6 h.7 h.8 in x.half.from
 
 pub move_words-requires-clause-to : goal.move_words-requires-clause-to
-move_words-requires-clause-to c = let h = c.requires.moving in let x = c.in-Some.ensures.held c.args.addr c.args.size h.0 h.1 h.2 h.3 h.5 h.6 h.7 h.8 in x.held.half.to
+move_words-requires-clause-to c = let h = c.requires.moving in let x = c.in-Some.ensures.held c.args.addr c.args.size h.0 h.1 h.2 h.3 h.5 h.6 h.7 h.8 in x.half.to
 
 pub end_back-requires-clause-halfway : goal.end_back-requires-clause-halfway
 end_back-requires-clause-halfway c =
@@ -34,9 +34,9 @@ end_back-requires-clause-halfway c =
     let addr = c.args.addr in let size = c.args.size in let n = c.args.n in let b = c.in-Some.b in
     let x = c.in-Some.ensures.held addr size h.0 h.1 h.2 h.3 h.5 h.6 h.7 h.8 in
     let f = c.move_words.ensures in let list = moving addr size b n c.args.zero f.0 in
-    let half = half_filled t u list f.2 (calls.Realloc addr n h.0) addr size b n h.1 x.held.place h.2 x.held.half in
-    let back_out : is_out whats.Back t.out ≡ true = ap (is_out whats.Back) x.held.half.out_is ∙ h.7 in
-    (calls.Realloc addr n h.0, h.1, x.held.place, h.2, half, h.4, will_back t u list f.2 c.check.ensures.stands x.held.place n back_out c.hold_settled.new.back x.held.back)
+    let half = half_filled t u list f.2 (calls.Realloc addr n h.0) addr size b n h.1 x.place h.2 x.half in
+    let back_out : is_out whats.Back t.out ≡ true = ap (is_out whats.Back) x.half.out_is ∙ h.7 in
+    (calls.Realloc addr n h.0, h.1, x.place, h.2, half, h.4, will_back t u list f.2 c.check.ensures.stands x.place n back_out c.hold_settled.new.back x.back)
 
 pub returns-clause-moved : goal.returns-clause-moved
 returns-clause-moved c = λ flags p out zero_is v is_there vs_held wvs back_held wback.
@@ -46,8 +46,8 @@ returns-clause-moved c = λ flags p out zero_is v is_there vs_held wvs back_held
     let f0 = c.move_words.ensures in
     let f : HasFilled t u (moving addr size b n flags.zero f0.0) = subst (λ (z : Bool). HasFilled t u (moving addr size b n z f0.0)) (sym zero_is) f0.2 in
     let list = moving addr size b n flags.zero f0.0 in
-    let half = half_filled t u list f (calls.Realloc addr n flags) addr size b n p x.held.place out x.held.half in
-    let vs_out : is_out whats.Vs t.out ≡ true = ap (is_out whats.Vs) x.held.half.out_is ∙ vs_held in
-    let back_out : is_out whats.Back t.out ≡ true = ap (is_out whats.Back) x.held.half.out_is ∙ back_held in
-    let e = c.end_back.ensures (calls.Realloc addr n flags) p x.held.place out half is_there (will_back t u list f c.check.ensures.stands x.held.place n back_out c.hold_settled.new.back x.held.back) in
-    moves_late k t u c.end_back.new.c addr size n flags p out b c.hold_settled.new.vs c.hold_settled.new.back f0.0 v x f0.1 f e.changed c.hold_settled.new.vs c.end_back.new.back (record { vs = e.vs c.hold_settled.new.vs (will_vs t u list f c.check.ensures.stands x.held.place n vs_out c.hold_settled.new.vs x.held.vs); back = e.back })
+    let half = half_filled t u list f (calls.Realloc addr n flags) addr size b n p x.place out x.half in
+    let vs_out : is_out whats.Vs t.out ≡ true = ap (is_out whats.Vs) x.half.out_is ∙ vs_held in
+    let back_out : is_out whats.Back t.out ≡ true = ap (is_out whats.Back) x.half.out_is ∙ back_held in
+    let e = c.end_back.ensures (calls.Realloc addr n flags) p x.place out half is_there (will_back t u list f c.check.ensures.stands x.place n back_out c.hold_settled.new.back x.back) in
+    moves_late k t u c.end_back.new.c addr size n flags p out b c.hold_settled.new.vs c.hold_settled.new.back f0.0 v x f0.1 f e.changed c.hold_settled.new.vs c.end_back.new.back (record { vs = e.vs c.hold_settled.new.vs (will_vs t u list f c.check.ensures.stands x.place n vs_out c.hold_settled.new.vs x.vs); back = e.back })

@@ -1,5 +1,6 @@
 use Rattle.std.proofs.Common.{◌≡◌, ℕ, ◌*◌, ◌-◌, true, false, [], ◌∷◌, refl, sym, ap, subst, ◌∙◌}
 use Rattle.heap_model.specs.declared.Act.TheVariants as acts
+use Rattle.heap_model.specs.declared.Layer.TheVariants as layers
 use Rattle.heap_model.specs.declared.What.TheVariants as whats
 use Rattle.heap_model.specs.Layers.{StandsForVs, StandsForBack}
 use Rattle.heap_model.specs.Legal.{leaves_whole}
@@ -13,14 +14,14 @@ use Rattle.heap_gate.specs.Token.{Token, Always, now}
 use Rattle.call_parts.specs.Entries.{HasEnded}
 use Rattle.stay_calls.specs.Stays.{HasToMove}
 use Rattle.stay_calls.proofs.Ending.{is_off, is_on, looks_none, has_to_move, leave_may, no_room_at}
-use Rattle.stay_calls.proofs.BackStays.{back_found, sized_vs, sized_used, sized_back}
+use Rattle.stay_calls.proofs.BackStays.{found_now, back_found, sized_vs, sized_used, sized_back}
 use Rattle.stay_calls.proofs.back.leave.Goals as goal
 
 pub returns-then-not-flags : goal.returns-then-not-flags
 returns-then-not-flags c =
     let k = c.args.c.now in let y = c.requires.back in let x = y.has in let r = c.args.run in
     let f = back_found k x.call c.args.vs c.args.back x.holds c.check.ensures.stands c.region-region.ensures.sound c.args.addr y.not_vs r c.requires.found c.args.n false c.requires.leaves in
-    (is_off c.args.flags.in_place c.if-not-flags.true, (looks_none k, y, subst (λ (m : ℕ). HasToMove k c.args.addr m c.args.n) (sym c.size_of-size.ensures) (has_to_move k c.args.addr (place_of r) (4096 * r.pages - r.mark.unused) c.args.n f)))
+    (is_off c.args.flags.in_place c.if-not-flags.true, (looks_none k, y, subst (λ (m : ℕ). HasToMove k layers.Back c.args.addr m c.args.n) (sym c.size_of-size.ensures) (has_to_move k c.args.addr (place_of r) (4096 * r.pages - r.mark.unused) c.args.n layers.Back refl refl refl (found_now k x.call c.args.vs c.args.back x.holds c.check.ensures.stands c.region-region.ensures.sound c.args.addr y.not_vs r c.requires.found c.args.n) f)))
 
 pub prepare-requires-clause-may : goal.prepare-requires-clause-may
 prepare-requires-clause-may c =

@@ -1,10 +1,12 @@
-use Rattle.std.proofs.Common.{◌≡◌, ℕ, true, false, [], ◌∷◌, Some, refl, sym, subst}
+use Rattle.std.proofs.Common.{◌≡◌, ℕ, true, false, [], ◌∷◌, Some, refl, sym, ap, subst}
 use Rattle.std.specs.Prelude.{option_map}
 use Rattle.std.specs.List.{find}
 use Rattle.heap_model.specs.declared.Act.TheVariants as acts
+use Rattle.heap_model.specs.declared.Layer.TheVariants as layers
 use Rattle.heap_model.specs.declared.What.TheVariants as whats
 use Rattle.heap_model.specs.Layers.{StandsForLarge}
 use Rattle.heap_model.specs.Legal.{leaves_whole}
+use Rattle.heap_model.specs.State.{Live, has_address}
 use Rattle.claim_rule.specs.Entries.{entry}
 use Rattle.claim_rule.specs.Places.{large_slot}
 use Rattle.large_blocks.specs.Table.{LargeTable, place_of, is_at, layer_of}
@@ -16,23 +18,25 @@ use Rattle.large_blocks.specs.Effects.{InEach, TellsStay}
 use Rattle.paged_calls.specs.Parts.{HasLarge}
 use Rattle.call_parts.proofs.Tokens.{ended_given}
 use Rattle.stay_calls.proofs.Ending.{AllFound, is_off, is_on, looks_none, has_to_move, leave_may, no_room_at}
-use Rattle.stay_calls.proofs.LargeStays.{sized_block, large_found, sized_tells}
+use Rattle.stay_calls.proofs.LargeStays.{sized_block, among_now, large_found, sized_tells}
 use Rattle.stay_calls.proofs.large.leave.Goals as goal
 
 record IsBlock (k : Token) (addr size n : ℕ) : Type 0 where
   pub block : LargeBlock
+  pub size_is : block.size ≡ size
+  pub there : Always k (λ s. find (has_address addr) (now s k).state.large ≡ Some (place_of block))
   pub found : AllFound k addr (place_of block) size n false
 
 found_so : (k : Token) (large : LargeTable) (h : HasLarge k large) (st : IsStanding k) (sound : IsSound large) (addr size n : ℕ) → option_map (λ b. b.size) (find (is_at addr) large.blocks) ≡ Some size → InEach large (λ o st'. TellsStay o st' addr n false) → IsBlock k addr size n
 found_so k large h st sound addr size n e told =
     let b = sized_block (find (is_at addr) large.blocks) size e in
-    record { block = b.0; found = subst (λ (m : ℕ). AllFound k addr (place_of b.0) m n false) b.2 (large_found k h.0 large h.1 st sound addr b.0 b.1 n false told) }
+    record { block = b.0; size_is = b.2; there = among_now k h.0 large h.1 st sound addr b.0 b.1 n; found = subst (λ (m : ℕ). AllFound k addr (place_of b.0) m n false) b.2 (large_found k h.0 large h.1 st sound addr b.0 b.1 n false told) }
 
 pub returns-then-not-flags : goal.returns-then-not-flags
 returns-then-not-flags c =
     let k = c.args.c.now in
     let x = found_so k c.args.large c.requires.large.has c.check.ensures.stands c.blocks-blocks.ensures.sound c.args.addr c.args.size c.args.n c.requires.found c.requires.leaves in
-    (is_off c.args.flags.in_place c.if-not-flags.true, (looks_none k, c.requires.large, has_to_move k c.args.addr (place_of x.block) c.args.size c.args.n x.found))
+    (is_off c.args.flags.in_place c.if-not-flags.true, (looks_none k, c.requires.large, has_to_move k c.args.addr (place_of x.block) c.args.size c.args.n layers.Large refl (ap Live x.size_is) refl x.there x.found))
 
 pub prepare-requires-clause-may : goal.prepare-requires-clause-may
 prepare-requires-clause-may c =

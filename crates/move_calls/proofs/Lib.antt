@@ -1,0 +1,16 @@
+pub mod Still
+pub mod Stuck
+pub mod Ready
+pub mod Given
+pub mod Came
+pub mod Ended
+pub mod Behind
+pub mod Tried
+pub mod Handed
+pub mod Holding
+pub mod Arms
+pub mod Founds
+pub mod Halves
+pub mod Shown
+pub mod Carrying
+pub mod Brought

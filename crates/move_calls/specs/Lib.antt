@@ -1,0 +1,4 @@
+pub mod Moves
+pub mod Holds
+pub mod Ends
+pub mod Carries
