@@ -1,5 +1,5 @@
 -- Where nobody else has a call, no call of caller 0 is blocked.
-use Rattle.std.proofs.Common.{◌≡◌, ℕ, ◌+◌, Bool, true, false, not, ◌==◌, ◌&&◌, cond, if◌then◌else◌, List, [], ◌∷◌, map, Option, Some, None, refl, sym, ap, ◌∙◌, inl, inr}
+use Rattle.std.proofs.Common.{◌≡◌, ℕ, ◌+◌, Bool, true, false, not, ◌==◌, ◌&&◌, ◌⊎◌, cond, if◌then◌else◌, List, [], ◌∷◌, ◌++◌, map, Option, Some, None, refl, sym, ap, ◌∙◌, inl, inr}
 use Rattle.std.specs.List.{list_all}
 use Rattle.std.proofs.lemmas.Bool.{cases_Bool, true≢false, and_parts}
 use Rattle.heap_model.specs.declared.Act.{Act}
@@ -47,20 +47,36 @@ not_is : (b : Bool) → not b ≡ true → b ≡ false
 not_is true h = absurd (true≢false (sym h))
 not_is false h = refl
 
+---- An act among others
+
+abbrev pub Comes : Act → List Act → Type 0
+Comes act rest = (front : List Act) × (back : List Act) × (rest ≡ front ++ act ∷ back)
+
+none_comes : (act : Act) (front back : List Act) → [] ≡ front ++ act ∷ back → ⊥
+none_comes act [] back e = let z : ⊥ = cc e in z
+none_comes act (x ∷ front) back e = let z : ⊥ = cc e in z
+
+-- it is the first, or comes behind it
+first_or_later : (first act : Act) (rest front back : List Act) → first ∷ rest ≡ front ++ act ∷ back → (first ≡ act) ⊎ Comes act rest
+first_or_later first act rest [] back e = inl (cc e)
+first_or_later first act rest (x ∷ front) back e = inr (front, back, cc e)
+
 -- acts of a call under way, behind its Begin
 pub unblocked : (s : Setting) (m : Configuration) (call : Call) (rest : List Act) (b : Busy) → IsOnly m → (m.now.calls 0).call ≡ Some call → is_lock_or_compact call ≡ false →
-    may_all_follow s m (map by_zero rest) ≡ true → list_all (λ act. not (is_begin act)) rest ≡ true → shape_of rest ≡ blocked b ∷ [] → ⊥
-unblocked s m call [] b only e p h n shape = let z : ⊥ = cc shape in z
-unblocked s m call (act ∷ rest) b only e p h n shape =
+    may_all_follow s m (map by_zero rest) ≡ true → list_all (λ act. not (is_begin act)) rest ≡ true → Comes (blocked b) (shape_of rest) → ⊥
+unblocked s m call [] b only e p h n comes = none_comes (blocked b) comes.0 comes.1 comes.2
+unblocked s m call (act ∷ rest) b only e p h n comes =
     let q = and_parts (may_follow s m (by_zero act)) (may_all_follow s (after s m (by_zero act)) (map by_zero rest)) h in
     let r = and_parts (not (is_begin act)) (list_all (λ x. not (is_begin x)) rest) n in
+    let goes : ((after s m (by_zero act)).now.calls 0).call ≡ Some call =
+    ap (λ (k : CallState). k.call) (updated_here m.now.calls 0 (call_after s 0 (m.now.calls 0) act)) ∙ (goes_on s 0 (m.now.calls 0) act (not_is (is_begin act) r.0) ∙ e) in
+    let later : Comes (blocked b) (shape_of rest) → ⊥ = unblocked s (after s m (by_zero act)) call rest b (after_only s m only act) goes p q.1 r.1 in
     elim (cases_Bool (is_left_out act)) [
-      | inl out ↦
-          let goes : ((after s m (by_zero act)).now.calls 0).call ≡ Some call =
-          ap (λ (k : CallState). k.call) (updated_here m.now.calls 0 (call_after s 0 (m.now.calls 0) act)) ∙ (goes_on s 0 (m.now.calls 0) act (not_is (is_begin act) r.0) ∙ e) in
-          unblocked s (after s m (by_zero act)) call rest b (after_only s m only act) goes p q.1 r.1 (sym (ap (λ (x : Bool). cond x (shape_of rest) (act ∷ shape_of rest)) out) ∙ shape)
+      | inl out ↦ later (comes.0, comes.1, sym (ap (λ (x : Bool). cond x (shape_of rest) (act ∷ shape_of rest)) out) ∙ comes.2)
       | inr out ↦
-          let there : act ∷ shape_of rest ≡ blocked b ∷ [] = sym (ap (λ (x : Bool). cond x (shape_of rest) (act ∷ shape_of rest)) out) ∙ shape in
-          let is : act ≡ blocked b = cc there in
-          not_blocked s m call b.what b.word only e p (ap (may s m 0) (sym is) ∙ may_of s m act q.0)
+          let there : act ∷ shape_of rest ≡ comes.0 ++ blocked b ∷ comes.1 = sym (ap (λ (x : Bool). cond x (shape_of rest) (act ∷ shape_of rest)) out) ∙ comes.2 in
+          elim (first_or_later act (blocked b) (shape_of rest) comes.0 comes.1 there) [
+            | inl is ↦ not_blocked s m call b.what b.word only e p (ap (may s m 0) (sym is) ∙ may_of s m act q.0)
+            | inr more ↦ later more
+          ]
     ]

@@ -68,6 +68,7 @@ pub record IsLone (h : HeapToken) (r : RootToken) (c : Token) : Type 0 where
 -- the calls that it serves
 abbrev pub IsBuilt : Call → Type 0
 IsBuilt (calls.Alloc n flags) = Unit {0}
+IsBuilt (calls.Realloc a n flags) = Unit {0}
 IsBuilt (calls.Free a) = Unit {0}
 IsBuilt (calls.Size a) = Unit {0}
 IsBuilt (calls.Get a index) = Unit {0}

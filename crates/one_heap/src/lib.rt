@@ -16,8 +16,10 @@ ghost use Rattle.one_heap.specs.Lone.{LoneHeap, new_with, setting_of, history_of
 
 use heap_closing::close;
 use heap_gate::{join, make_caller};
-use heap_model::{AllocNo, Call, Flags, FreeNo, Limits, OutOfMemory, Reply, WordNo};
-use heap_now::{Caller, Heap, Root, alloc_now, free_now, get_now, open_heap, put_now, size_now};
+use heap_model::{AllocNo, Call, Flags, FreeNo, Limits, OutOfMemory, ReNo, Reply, WordNo};
+use heap_now::{
+    Caller, Heap, Root, alloc_now, free_now, get_now, open_heap, put_now, realloc_now, size_now,
+};
 use layout_decode::Image;
 use std::alloc::Global;
 use std::marker::Model;
@@ -65,6 +67,7 @@ impl OneHeap {
     {
         match *call {
             Call::Alloc { n, flags } => self.alloc(n, flags),
+            Call::Realloc { addr, n, flags } => self.realloc(addr, n, flags),
             Call::Free { addr } => self.free(addr),
             Call::Size { addr } => self.size(addr),
             Call::Get { addr, index } => self.get(addr, index),
@@ -80,6 +83,18 @@ impl OneHeap {
             Ok(addr) => Reply::Address(addr),
             Err(AllocNo::NoFit) => Reply::NoFit,
             Err(AllocNo::Busy(_)) => unreachable!(),
+        }
+    }
+
+    fn realloc(&mut self, addr: u64, n: u64, flags: Flags) -> Reply
+        ensures { Serves self.old self.new (calls.Realloc addr n flags) result }
+    {
+        match realloc_now(&self.heap, &mut self.caller, addr, n, flags) {
+            Ok(there) => Reply::Address(there),
+            Err(ReNo::NotLive) => Reply::NotLive,
+            Err(ReNo::NoFit) => Reply::NoFit,
+            Err(ReNo::NoRoomInPlace) => Reply::NoRoom,
+            Err(ReNo::Busy(_)) => unreachable!(),
         }
     }
 

@@ -2,6 +2,7 @@
 use Rattle.std.proofs.Common.{◌≡◌, ◌≢◌, ℕ, zero, suc, ◌+◌, ◌-◌, ◌<◌, ◌==◌, false, [], ◌∷◌, Some, refl, sym, ap, subst, ne_eqb, arith}
 use Rattle.heap_model.specs.declared.Call.{Call}
 use Rattle.heap_model.specs.declared.Call.TheVariants as calls
+use Rattle.heap_model.specs.declared.Flags.{Flags}
 use Rattle.heap_model.specs.declared.Reply.{Reply}
 use Rattle.heap_model.specs.declared.Reply.TheVariants as replies
 use Rattle.heap_model.specs.History.{configuration_of}
@@ -30,10 +31,15 @@ made_goes a b call reply m = record {
 ---- Calls that always take a step
 
 module _ (a b : Token) (reply : Reply) where
-  pub serves_alloc : (n : ℕ) (flags : Rattle.heap_model.specs.declared.Flags.Flags) → GetsAtLast a b (calls.Alloc n flags) reply → Serves a b (calls.Alloc n flags) (reply ∷ [])
+  pub serves_alloc : (n : ℕ) (flags : Flags) → GetsAtLast a b (calls.Alloc n flags) reply → Serves a b (calls.Alloc n flags) (reply ∷ [])
   serves_alloc n flags x =
       let m = made_at_last a b (calls.Alloc n flags) reply x in
       record { goes = made_goes a b (calls.Alloc n flags) reply m; depth = m.follows.depth; served = λ s q. (reply, refl, m.tried s q) }
+
+  pub serves_realloc : (addr n : ℕ) (flags : Flags) → GetsAtLast a b (calls.Realloc addr n flags) reply → Serves a b (calls.Realloc addr n flags) (reply ∷ [])
+  serves_realloc addr n flags x =
+      let m = made_at_last a b (calls.Realloc addr n flags) reply x in
+      record { goes = made_goes a b (calls.Realloc addr n flags) reply m; depth = m.follows.depth; served = λ s q. (reply, refl, m.tried s q) }
 
   pub serves_free : (addr : ℕ) → GetsAtLast a b (calls.Free addr) reply → Serves a b (calls.Free addr) (reply ∷ [])
   serves_free addr x =

@@ -11,9 +11,8 @@ use Rattle.heap_model.specs.Served.{IsTried, IsServed, by_depth, depth_after}
 use Rattle.heap_gate.specs.Token.{Token, Always}
 use Rattle.heap_now.specs.Calls.{IsReady}
 
--- a call that is one call of the heap, or none, and that threads can make so far: no reallocation
+-- a call that a command makes as one call of the heap, or none
 abbrev pub IsServable : Call → Type 0
-IsServable (calls.Realloc addr n flags) = ⊥
 IsServable (calls.WalkNext from) = ⊥
 IsServable calls.Stay = ⊥
 IsServable call = Unit {0}

@@ -6,7 +6,10 @@ ghost use Rattle.heap_api.specs.AtLast.{GetsAtLast};
 ghost use Rattle.thread_calls.specs.Serving.{IsServable, IsDepthBehind, Serves, is_last};
 
 use crate::lock_calls::{give_back, take};
-use heap_api::{Caller, Heap, NoFit, NotLive, WordRefused, alloc, compact, free, get, put, size};
+use heap_api::{
+    Caller, Heap, NoFit, NotLive, ReRefused, WordRefused, alloc, compact, free, get, put, realloc,
+    size,
+};
 use heap_model::{Call, Flags, Reply};
 use std::sync::Wait;
 
@@ -19,6 +22,20 @@ fn place<R: Wait>(rt: &R, heap: &Heap, c: &mut Caller, n: u64, flags: Flags) -> 
     match alloc(rt, heap, c, n, flags) {
         Ok(addr) => Reply::Address(addr),
         Err(NoFit) => Reply::NoFit,
+    }
+}
+
+fn change<R: Wait>(rt: &R, heap: &Heap, c: &mut Caller, addr: u64, n: u64, flags: Flags) -> Reply
+    requires table { (c.old.table ≡ heap.now.table) × (c.old.opening ≡ heap.now.opening) }
+    requires ready { IsReady c.old }
+    ensures gets { GetsAtLast c.old c.new (calls.Realloc addr n flags) result }
+    ensures last { is_last result ≡ true }
+{
+    match realloc(rt, heap, c, addr, n, flags) {
+        Ok(there) => Reply::Address(there),
+        Err(ReRefused::NotLive) => Reply::NotLive,
+        Err(ReRefused::NoFit) => Reply::NoFit,
+        Err(ReRefused::NoRoomInPlace) => Reply::NoRoom,
     }
 }
 
@@ -82,8 +99,7 @@ fn press<R: Wait>(rt: &R, heap: &Heap, c: &mut Caller) -> Reply
 }
 
 /// Makes a call, waiting while another caller is in the way, and answers its reply. A call that takes no step, as taking the heap lock
-/// again, is answered by the caller's depth. A walk is several calls, and a
-/// reallocation is none that it makes yet.
+/// again, is answered by the caller's depth. A walk is several calls, and is none of these.
 pub fn serve<R: Wait>(rt: &R, heap: &Heap, c: &mut Caller, call: Call) -> Reply
     requires table { (c.old.table ≡ heap.now.table) × (c.old.opening ≡ heap.now.opening) }
     requires ready { IsReady c.old }
@@ -94,6 +110,7 @@ pub fn serve<R: Wait>(rt: &R, heap: &Heap, c: &mut Caller, call: Call) -> Reply
 {
     match call {
         Call::Alloc { n, flags } => place(rt, heap, c, n, flags),
+        Call::Realloc { addr, n, flags } => change(rt, heap, c, addr, n, flags),
         Call::Free { addr } => give_up(rt, heap, c, addr),
         Call::Size { addr } => ask(rt, heap, c, addr),
         Call::Get { addr, index } => read(rt, heap, c, addr, index),
@@ -101,6 +118,6 @@ pub fn serve<R: Wait>(rt: &R, heap: &Heap, c: &mut Caller, call: Call) -> Reply
         Call::Lock => take(rt, heap, c),
         Call::Unlock => give_back(heap, c),
         Call::Compact => press(rt, heap, c),
-        Call::Realloc { .. } | Call::WalkNext { .. } | Call::Stay => unreachable!(),
+        Call::WalkNext { .. } | Call::Stay => unreachable!(),
     }
 }

@@ -69,6 +69,46 @@ fn calls_get_replies(rt: HostRuntime) -> Result<(), Fail> {
     Ok(())
 }
 
+fn resize(addr: u64, n: u64, in_place: bool) -> Call
+    ensures { IsServable result }
+{
+    let flags = Flags {
+        zero: false,
+        in_place,
+    };
+    Call::Realloc { addr, n, flags }
+}
+
+// A place of 24 bytes has room for 28, not for 400. A block of 200 bytes fits behind both blocks.
+#[test]
+fn blocks_change_their_sizes(rt: HostRuntime) -> Result<(), Fail> {
+    let (heap, _root, mut c) = alone(rt.alloc())?;
+    let flags = Flags {
+        zero: false,
+        in_place: false,
+    };
+    let first = answer(&rt, &heap, &mut c, Call::Alloc { n: 24, flags });
+    let second = answer(&rt, &heap, &mut c, Call::Alloc { n: 16, flags });
+    let stays = answer(&rt, &heap, &mut c, resize(8256, 28, true));
+    let cannot = answer(&rt, &heap, &mut c, resize(8256, 400, true));
+    let moved = answer(&rt, &heap, &mut c, resize(8256, 200, false));
+    let gone = answer(&rt, &heap, &mut c, resize(8256, 200, false));
+    let too_large = answer(&rt, &heap, &mut c, resize(8336, 520_193, false));
+    assert_eq!(rt;
+        [first, second, stays, cannot, moved, gone, too_large],
+        [
+            Reply::Address(8256),
+            Reply::Address(8304),
+            Reply::Address(8256),
+            Reply::NoRoom,
+            Reply::Address(8336),
+            Reply::NotLive,
+            Reply::NoFit
+        ]
+    );
+    Ok(())
+}
+
 // The heap lock is given back as often as it was taken.
 #[test]
 fn the_depth_answers(rt: HostRuntime) -> Result<(), Fail> {

@@ -16,23 +16,22 @@ use Rattle.heap_gate.specs.Token.{HeapToken, Token}
 use Rattle.heap_now.specs.Calls.{IsCallerOf}
 use Rattle.thread_calls.specs.Serving.{Serves, EndsOnce, HasWalked, IsServable, IsDepthBehind, is_last}
 use Rattle.thread_rounds.specs.Threads.{answered}
-use Rattle.thread_commands.specs.Runnable.{IsRunnable}
 use Rattle.thread_commands.specs.Working.{IsLed, RunsOne}
 use Rattle.thread_commands.specs.declared.workers.Worker.{Worker}
 
 ---- Which calls there are
 
-pub servable : (v : ℕ → ℕ) (command : Command) → IsRunnable command → (command ≡ commands.Walk → ⊥) → IsServable (call_of v command)
-servable v (commands.Alloc name n zeroed) r o = tt
-servable v (commands.Realloc target n in_place) r o = absurd r
-servable v (commands.Free target) r o = tt
-servable v (commands.Size target) r o = tt
-servable v (commands.Get target index) r o = tt
-servable v (commands.Put target index value) r o = tt
-servable v commands.Lock r o = tt
-servable v commands.Unlock r o = tt
-servable v commands.Walk r o = absurd (o refl)
-servable v commands.Compact r o = tt
+pub servable : (v : ℕ → ℕ) (command : Command) → (command ≡ commands.Walk → ⊥) → IsServable (call_of v command)
+servable v (commands.Alloc name n zeroed) o = tt
+servable v (commands.Realloc target n in_place) o = tt
+servable v (commands.Free target) o = tt
+servable v (commands.Size target) o = tt
+servable v (commands.Get target index) o = tt
+servable v (commands.Put target index value) o = tt
+servable v commands.Lock o = tt
+servable v commands.Unlock o = tt
+servable v commands.Walk o = absurd (o refl)
+servable v commands.Compact o = tt
 
 pub led_caller : (h : HeapToken) (a b : Token) (call : Call) → IsCallerOf h a → IsLed call a b → IsCallerOf h b
 led_caller h a b call k x = record { table = x.goes.table ∙ k.table; opening = x.goes.opening ∙ k.opening; is_ready = x.goes.ready }

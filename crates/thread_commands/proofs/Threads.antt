@@ -1,7 +1,6 @@
 -- The commands of a thread, one behind the other.
 use Rattle.std.proofs.Common.{◌≡◌, ℕ, zero, suc, ◌+◌, ◌<◌, ◌≤◌, Bool, true, false, List, [], ◌∷◌, ◌++◌, map, length, take, drop, get_or, refl, sym, ap, ◌∙◌, subst, append_assoc, arith}
 use Rattle.std.specs.Prelude.{MatchBool, if◌then◌else◌}
-use Rattle.std.specs.List.{AllByRecursion}
 use Rattle.std.proofs.lemmas.List.{append-nil}
 use Rattle.heap_model.specs.declared.Reply.{Reply}
 use Rattle.heap_model.specs.History.{configuration_of}
@@ -22,7 +21,6 @@ use Rattle.heap_api.proofs.Made.{moments_on}
 use Rattle.thread_calls.specs.Serving.{Goes}
 use Rattle.thread_calls.proofs.Steps.{goes_self, goes_on, setting_goes}
 use Rattle.thread_rounds.specs.Threads.{answered, asked_at, Tries, IsThread}
-use Rattle.thread_commands.specs.Runnable.{IsRunnable}
 use Rattle.thread_commands.specs.Working.{RunsOne, Runs}
 use Rattle.thread_commands.specs.declared.workers.Worker.{Worker}
 use Rattle.thread_commands.proofs.Commands.{Fills, ends_fills, balanced_on}
@@ -150,11 +148,6 @@ runs_all a b earlier cs x = record {
 }
 
 ---- Over the lines of a thread
-
-pub mapped_at : (cs : List CommandLine) (i : ℕ) (d : CommandLine) → i < length cs → AllByRecursion IsRunnable (map command_of cs) → IsRunnable (get_or cs i d).command
-mapped_at [] i d l h = absurd (omega arith)
-mapped_at (x ∷ xs) zero d l h = h.0
-mapped_at (x ∷ xs) (suc i) d l h = mapped_at xs i d (omega arith) h.1
 
 pub take_mapped : (cs : List CommandLine) (i : ℕ) (d : CommandLine) → i < length cs → map command_of (take (i + 1) cs) ≡ map command_of (take i cs) ++ (get_or cs i d).command ∷ []
 take_mapped [] i d l = absurd (omega arith)

@@ -6,7 +6,6 @@ ghost use Rattle.script_text.specs.declared.commands.Command.TheVariants as comm
 ghost use Rattle.heap_now.specs.Calls.{IsCallerOf};
 ghost use Rattle.name_values.specs.Table.{value_in};
 ghost use Rattle.thread_calls.specs.Serving.{IsServable};
-ghost use Rattle.thread_commands.specs.Runnable.{IsRunnable};
 ghost use Rattle.thread_commands.specs.Working.{IsLed, RunsNext};
 
 use crate::workers::Worker;
@@ -58,7 +57,6 @@ pub(crate) fn run_command<R: Wait>(
     command: Command,
 ) -> Result<(), AllocError>
     requires caller { IsCallerOf heap.now w.old.caller }
-    requires runnable { IsRunnable command }
     ensures led { IsLed (call_of (value_in w.old.names.values) command) w.old.caller w.new.caller }
     ensures short { w.new.short ≡ w.old.short }
     ensures runs { OnOk result (RunsNext w.old w.new command) }

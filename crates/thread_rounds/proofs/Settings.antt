@@ -129,7 +129,7 @@ module _ (s t : Setting) (c : ℕ) where
     shape_same : (call : Call) (answer : Answer) (xs : List Moment) → HasShape s c call answer xs → HasShape t c call answer xs
     shape_same call answer xs h = shape_less call answer xs (subst (λ (l : Limits). HasShape (with_limits s l) c call answer xs) e h)
 
-    answer_same : (call : Call) (answer : Answer) (xs : List Moment) → IsAnswered s c call answer xs → IsAnswered t c call answer xs
+    pub answer_same : (call : Call) (answer : Answer) (xs : List Moment) → IsAnswered s c call answer xs → IsAnswered t c call answer xs
     answer_same call answer xs x = record { one = x.one; shape = shape_same call answer xs x.shape }
 
     busy_same : (call : Call) (xs : List (List Moment)) → AllByRecursion (MetBusy s c call) xs → AllByRecursion (MetBusy t c call) xs

@@ -24,4 +24,4 @@ returns c =
       | in-Err-NoFit w ↦ ap alloc_answer (w.in-Err-NoFit.is ∙ ap Err w.in-Err-NoFit.field-0-is) ∙ ap Replied (sym w.result-is)
     ] in
     subst (λ (old : LoneHeap). Serves old (seen_by i.heap d) (calls.Alloc c.args.n c.args.flags) reply) c.self.view_is
-    (served (MayTake c.args.n) i.heap i.root i.caller d c.self.invariant (calls.Alloc c.args.n c.args.flags) (alloc_answer c.alloc_now.result) reply c.alloc_now.ensures.ends same tt)
+    (served (MayTake c.args.n) i.heap i.root i.caller d c.self.invariant (calls.Alloc c.args.n c.args.flags) (alloc_answer c.alloc_now.result) reply c.alloc_now.ensures.ends same)

@@ -25,4 +25,4 @@ returns c =
       | in-Err-NotLive w ↦ ap free_answer (w.in-Err-NotLive.is ∙ ap Err w.in-Err-NotLive.field-0-is) ∙ ap Replied (sym w.result-is)
     ] in
     subst (λ (old : LoneHeap). Serves old (seen_by i.heap d) (calls.Free c.args.addr) reply) c.self.view_is
-    (served (MayGuard c.self.inside.heap.opening.limits c.args.addr) i.heap i.root i.caller d c.self.invariant (calls.Free c.args.addr) (free_answer c.free_now.result) reply c.free_now.ensures.ends same tt)
+    (served (MayGuard c.self.inside.heap.opening.limits c.args.addr) i.heap i.root i.caller d c.self.invariant (calls.Free c.args.addr) (free_answer c.free_now.result) reply c.free_now.ensures.ends same)

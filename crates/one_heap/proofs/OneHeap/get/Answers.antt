@@ -26,4 +26,4 @@ returns c =
       | in-Err-Past w ↦ ap get_answer (w.in-Err-Past.is ∙ ap Err w.in-Err-Past.field-0-is) ∙ ap Replied (sym w.result-is)
     ] in
     subst (λ (old : LoneHeap). Serves old (seen_by i.heap d) (calls.Get c.args.addr c.args.index) reply) c.self.view_is
-    (served (MayGuard c.self.inside.heap.opening.limits c.args.addr) i.heap i.root i.caller d c.self.invariant (calls.Get c.args.addr c.args.index) (get_answer c.get_now.result) reply c.get_now.ensures.ends same tt)
+    (served (MayGuard c.self.inside.heap.opening.limits c.args.addr) i.heap i.root i.caller d c.self.invariant (calls.Get c.args.addr c.args.index) (get_answer c.get_now.result) reply c.get_now.ensures.ends same)

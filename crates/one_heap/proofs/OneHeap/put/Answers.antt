@@ -26,4 +26,4 @@ returns c =
       | in-Err-Past w ↦ ap put_answer (w.in-Err-Past.is ∙ ap Err w.in-Err-Past.field-0-is) ∙ ap Replied (sym w.result-is)
     ] in
     subst (λ (old : LoneHeap). Serves old (seen_by i.heap d) (calls.Put c.args.addr c.args.index c.args.value) reply) c.self.view_is
-    (served (MayGuard c.self.inside.heap.opening.limits c.args.addr) i.heap i.root i.caller d c.self.invariant (calls.Put c.args.addr c.args.index c.args.value) (put_answer c.put_now.result) reply c.put_now.ensures.ends same tt)
+    (served (MayGuard c.self.inside.heap.opening.limits c.args.addr) i.heap i.root i.caller d c.self.invariant (calls.Put c.args.addr c.args.index c.args.value) (put_answer c.put_now.result) reply c.put_now.ensures.ends same)

@@ -1,11 +1,16 @@
 use Rattle.heap_model.specs.declared.Call.TheVariants as calls
-use Rattle.thread_calls.proofs.Served.{serves_alloc, serves_free, serves_size, serves_get, serves_put, serves_compact, at_call, at_depth, kept_depth}
+use Rattle.thread_calls.proofs.Served.{serves_alloc, serves_realloc, serves_free, serves_size, serves_get, serves_put, serves_compact, at_call, at_depth, kept_depth}
 use Rattle.thread_calls.proofs.serving.serve.Goals as goal
 
 pub returns-in-Alloc-clause-served : goal.returns-in-Alloc-clause-served
 returns-in-Alloc-clause-served g c =
     let a = c.args.c.now in let b = c.place.new.c in
     at_call a b c.args.call (calls.Alloc c.in-Alloc.n c.in-Alloc.flags) c.place.result c.in-Alloc.is (serves_alloc a b c.place.result c.in-Alloc.n c.in-Alloc.flags c.place.ensures.gets)
+
+pub returns-in-Realloc-clause-served : goal.returns-in-Realloc-clause-served
+returns-in-Realloc-clause-served g c =
+    let a = c.args.c.now in let b = c.change.new.c in
+    let i = c.in-Realloc in at_call a b c.args.call (calls.Realloc i.addr i.n i.flags) c.change.result i.is (serves_realloc a b c.change.result i.addr i.n i.flags c.change.ensures.gets)
 
 pub returns-in-Free-clause-served : goal.returns-in-Free-clause-served
 returns-in-Free-clause-served g c =
@@ -35,6 +40,11 @@ returns-in-Compact-clause-served g c =
 pub returns-in-Alloc-clause-depth : goal.returns-in-Alloc-clause-depth
 returns-in-Alloc-clause-depth g c =
     let a = c.args.c.now in let b = c.place.new.c in at_depth a.depth b.depth c.args.call (calls.Alloc c.in-Alloc.n c.in-Alloc.flags) c.in-Alloc.is (kept_depth a b (calls.Alloc c.in-Alloc.n c.in-Alloc.flags) c.place.result c.place.ensures.gets)
+
+pub returns-in-Realloc-clause-depth : goal.returns-in-Realloc-clause-depth
+returns-in-Realloc-clause-depth g c =
+    let a = c.args.c.now in let b = c.change.new.c in
+    let i = c.in-Realloc in at_depth a.depth b.depth c.args.call (calls.Realloc i.addr i.n i.flags) i.is (kept_depth a b (calls.Realloc i.addr i.n i.flags) c.change.result c.change.ensures.gets)
 
 pub returns-in-Free-clause-depth : goal.returns-in-Free-clause-depth
 returns-in-Free-clause-depth g c =

@@ -8,20 +8,14 @@ use Rattle.name_values.specs.Table.{value_in}
 use Rattle.thread_rounds.specs.Threads.{answered}
 use Rattle.thread_commands.specs.Working.{Runs}
 use Rattle.thread_commands.proofs.Commands.{led_caller}
-use Rattle.thread_commands.proofs.Threads.{RunsSoFar, runs_none, runs_more, runs_all, mapped_at, take_mapped, take_all, balanced_more, balanced_end}
+use Rattle.thread_commands.proofs.Threads.{RunsSoFar, runs_none, runs_more, runs_all, take_mapped, take_all, balanced_more, balanced_end}
 use Rattle.thread_commands.proofs.running.run_all.Goals as goal
-
-pub run_command-requires : goal.run_command-requires
-run_command-requires g c = record {
-  caller = c.loop-line.invariant.caller;
-  runnable = mapped_at c.args.commands.now c.loop-line.line-index (record { line = 0; command = commands.Alloc 0 0 false }) c.loop-line-test.true c.requires.commands.runnable;
-}
 
 pub loop-line-init : goal.loop-line-init
 loop-line-init g c = record {
   caller = c.requires.free.caller;
   short = refl;
-  balanced = (0, (let d = c.requires.free.depth in omega (arith, d)), c.requires.commands.balanced);
+  balanced = (0, (let d = c.requires.free.depth in omega (arith, d)), c.requires.commands);
   so_far = λ earlier k. runs_none c.args.w.now earlier c.requires.free.caller.is_ready c.requires.free.depth c.requires.fresh k;
 }
 

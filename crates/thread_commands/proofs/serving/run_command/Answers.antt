@@ -18,7 +18,7 @@ returns-in-Walk-clause-runs g c = subst (λ (k : Command). OnOk c.run_walk.resul
 
 pub run_call-requires-clause-servable : goal.run_call-requires-clause-servable
 run_call-requires-clause-servable g c =
-    subst IsServable (sym c.call_for-call.ensures) (servable (value_in c.args.w.now.names.values) c.args.command c.requires.runnable c.in_default.not-Walk)
+    subst IsServable (sym c.call_for-call.ensures) (servable (value_in c.args.w.now.names.values) c.args.command c.in_default.not-Walk)
 
 pub returns-in_default-clause-led : goal.returns-in_default-clause-led
 returns-in_default-clause-led g c = subst (λ (k : Call). IsLed k c.args.w.now.caller c.run_call.new.w.caller) c.call_for-call.ensures c.run_call.ensures.led
