@@ -10,10 +10,13 @@ import sys
 sys.path.insert(0, os.path.dirname(os.path.dirname(os.path.realpath(__file__))))
 from heap_tools import common, script
 
-OPTIONS = ('--mode', '--segments', '--large')
-MODES = ('one',)
-MOST_SEGMENTS = 16
-MOST_LARGE = 4_096
+# Each option with what its number is, and its least and its most.
+NUMBERS = {
+    '--segments': ('number of segments', 1, 16), '--large': ('number of large pages', 0, 4_096), '--slots': ('number of slots', 1, 16),
+    '--seed': ('seed', 0, 2**64 - 1), '--count': ('number of commands', 0, 100_000),
+}
+OPTIONS = ('--mode', *NUMBERS)
+MODES = ('run', 'one', 'gen')
 MOST_NAMES = 5
 
 
@@ -35,37 +38,48 @@ def nearest(word, of):
 
 def words_fault(words):
     """What is wrong with the program's words, or None."""
-    if not words:
-        return 'the word --mode is missing: ./segheap --mode one'
-    if words[0] != '--mode':
-        return f'"{words[0]}" stands where --mode has to: {option_hint(words[0])}'
-    if len(words) < 2:
-        return '--mode needs a value behind it: --mode one'
-    if words[1] not in MODES:
-        near = nearest(words[1], MODES)
-        return f'"{words[1]}" is no mode{f"; did you mean {near}?" if near else ""} (one is the one that is built)'
-    rest = words[2:]
-    for option, what, least, most in (('--segments', 'segments', 1, MOST_SEGMENTS), ('--large', 'large pages', 0, MOST_LARGE)):
-        if rest and rest[0] == option:
-            if len(rest) < 2:
-                return f'{option} needs a value behind it, {least} to {most:,}'
-            value = script.number(os.fsencode(rest[1]))
-            if value is None or not least <= value <= most:
-                return f'"{rest[1]}" is no number of {what}: {option} takes {least} to {most:,}'
-            rest = rest[2:]
-    if not rest:
-        return None
-    if rest[0] in OPTIONS:
-        return f'"{rest[0]}" stands at a wrong place: the words are --mode one, then --segments N or nothing, then --large G or nothing'
-    return f'"{rest[0]}" stands where only --segments or --large may: {option_hint(rest[0])}'
+    given, rest = {}, list(words)
+    while rest:
+        name, joined, value = rest.pop(0).partition('=')
+        if name not in OPTIONS:
+            return f'"{name}" is no option: {option_hint(name)}'
+        if name in given:
+            return f'{name} stands twice'
+        if not joined:
+            if not rest or rest[0].startswith('-'):
+                return f'{name} needs a value behind it, {values_of(name)}'
+            value = rest.pop(0)
+        fault = value_fault(name, value)
+        if fault:
+            return fault
+        given[name] = value
+    return None
 
 
-def option_hint(word):
-    head = word.partition('=')[0]
-    if '=' in word and head in OPTIONS:
-        return f'write the value as a word of its own, {head} {word.partition("=")[2]}'
-    near = nearest(head, OPTIONS)
-    return f'did you mean {near}?' if near and near != word else 'the words are --mode one, then --segments N or nothing, then --large G or nothing'
+def values_of(name):
+    if name == '--mode':
+        return ' or '.join(MODES)
+    _, least, most = NUMBERS[name]
+    return f'{least} to {most:,}'
+
+
+def value_fault(name, value):
+    """What is wrong with the value of an option, or None."""
+    if name == '--mode':
+        if value in MODES:
+            return None
+        near = nearest(value, MODES)
+        return f'"{value}" is no mode{f"; did you mean {near}?" if near else ""} (the modes are {", ".join(MODES)})'
+    what, least, most = NUMBERS[name]
+    number = script.number(os.fsencode(value))
+    if number is None or not least <= number <= most:
+        return f'"{value}" is no {what}: {name} takes {values_of(name)}'
+    return None
+
+
+def option_hint(name):
+    near = nearest(name, OPTIONS)
+    return f'did you mean {near}?' if near else f'the options are {", ".join(OPTIONS)}'
 
 
 def quoted(fault, text):
@@ -87,22 +101,33 @@ def fault_words(fault):
     return fault.why
 
 
-def script_fault(text):
-    """The fault of a script, as the program finds it; last a thread or a command that the program does not run."""
+def mode_of(words):
+    """The mode of words that are valid."""
+    for place, word in enumerate(words):
+        name, joined, value = word.partition('=')
+        if name == '--mode':
+            return value if joined else words[place + 1]
+    return 'run'
+
+
+def script_fault(text, mode='one'):
+    """The fault of a script, as the program finds it; in mode one last a thread or a command that one caller does not run."""
     try:
         read = script.read_script(text)
     except script.Fault as fault:
         return fault
+    if mode != 'one':
+        return None
     line = script.second_thread(text)
     if line:
-        return script.Fault(line, 'notsingle', 'a second thread of a round, and the program runs one caller: give each thread a round of its own')
+        return script.Fault(line, 'notsingle', 'a second thread of a round, and mode one has one caller: leave out --mode one, or give each thread a round of its own')
     for _, _, command in read.commands():
         if not is_built(command):
             return script.Fault(command.line, 'notbuilt', f'{why_not_built(command)}; tools/explain --rules tells what the rules of the heap give for it')
     return None
 
 
-BUILT = ('alloc', 'zalloc', 'free', 'size', 'get', 'put')
+BUILT = ('alloc', 'zalloc', 'realloc', 'inplace', 'free', 'size', 'get', 'put')
 
 
 def is_built(command):
@@ -110,16 +135,16 @@ def is_built(command):
 
 
 def why_not_built(command):
-    return f'"{command.word}" is a word of the language, and the program does not run it yet'
+    return f'"{command.word}" is a word of the language, and mode one does not run it yet'
 
 
 def tell(text):
     sys.stderr.write(f'segheap: {text}\n')
 
 
-def on_script(text):
+def on_script(text, mode):
     """A script that was refused."""
-    fault = script_fault(text)
+    fault = script_fault(text, mode)
     if fault is not None:
         tell(quoted(fault, text))
         tell(f'{fault.cause}: {fault_words(fault)}')
@@ -149,7 +174,7 @@ def main(words):
         if fault:
             tell(fault + ' (./segheap --help)')
     elif status == 3:
-        on_script(text)
+        on_script(text, mode_of(words[3:]))
     else:
         on_names(text)
     return 0

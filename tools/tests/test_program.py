@@ -84,17 +84,17 @@ class Program(unittest.TestCase):
         """The examples of README and of --help, and the pictures of the documents, are what they show."""
         readme = open_text('README.md')
         for text in (readme, ran('segheap', '--help')[1]):
-            shown = re.search(r"^ *\$ printf '(.*)' \| ./segheap --mode one\n((?: +\S.*\n)+)", text, re.M)
+            shown = re.search(r"^ *\$ printf '(.*)' \| ./segheap\n((?: +\S.*\n)+)", text, re.M)
             wanted = ''.join(it.strip() + '\n' for it in shown[2].splitlines())
-            self.assertEqual(ran('segheap', '--mode', 'one', given=shown[1].replace('\\n', '\n'))[1], wanted)
+            self.assertEqual(ran('segheap', given=shown[1].replace('\\n', '\n'))[1], wanted)
         letters = ran('picture', 'examples/bucket.heap')[1].splitlines()[3:]
         self.assertTrue(''.join(f'    {it}\n' for it in letters) in readme)
         self.assertTrue(ran('picture', 'examples/bucket.heap', '--svg', '-')[1] == open_text('docs/picture.svg'), 'tools/picture examples/bucket.heap --svg docs/picture.svg')
 
     def test_not_built(self):
-        status, out, said = ran('explain', given='alloc a 5\nrealloc a 9\n')
+        status, out, said = ran('explain', given='alloc a 5\ncompact\n')
         self.assertEqual((status, out), (1, ''))
-        self.assertIn('line 2 "realloc a 9"', said)
+        self.assertIn('line 2 "compact"', said)
         self.assertIn('does not run this command yet; --rules tells', said)
 
     def test_statuses(self):
@@ -105,8 +105,10 @@ class Program(unittest.TestCase):
             (['--mode', 'one', '--segment', '1'], '', 2, 'usage fault\n', ['did you mean --segments?']),
             (['--mode', 'one'], 'alloc a 5\n alocate x 3\n', 3, 'line 2 badline\n', ['line 2: alocate x 3', 'did you mean "alloc NAME SIZE"?']),
             (['--mode', 'one'], 'free\n', 3, 'line 1 badline\n', ['line 1: free', 'needs 1 field behind it and has 0']),
-            (['--mode', 'one'], 'inplace x 1\n', 3, 'line 1 notbuilt\n', ['line 1: inplace x 1', 'does not run it yet']),
+            (['--mode', 'one'], 'walk\n', 3, 'line 1 notbuilt\n', ['line 1: walk', 'does not run it yet']),
             (['--mode', 'one'], 'thread\nthread\n', 3, 'line 2 notsingle\n', ['one caller']),
+            ([], 'thread\nthread\n', 0, 'blocks 0 bytes 0\n', []),
+            (['--slots=1'], 'lock\nwalk\nunlock\n', 0, '0 0 lock ok\n0 0 walk end 0\n0 0 unlock ok\nblocks 0 bytes 0\n', []),
             (['--mode', 'one'], 'free y\n', 0, '0 0 free notlive\nblocks 0 bytes 0\n', ['line 1: "free y"', 'the reply is notlive']),
             (['--mode', 'one'], 'free @5\n', 0, '0 0 free notlive\nblocks 0 bytes 0\n', []),
         ]:

@@ -61,20 +61,21 @@ class Advice(unittest.TestCase):
             self.assertEqual(advice.nearest(word, script.FIELDS), near, word)
 
     def test_words(self):
-        for words in (['--mode', 'one'], ['--mode', 'one', '--segments', '1'], ['--mode', 'one', '--segments', '00016'], ['--mode', 'one', '--large', '0'], ['--mode', 'one', '--segments', '1', '--large', '4096']):
-            self.assertIsNone(advice.words_fault(words))
+        for words in ('', '--segments 2', '--mode=run', '--slots=1 --mode run', '--mode one', '--mode=one', '--mode one --segments 1', '--segments=00016 --mode one', '--large 0 --mode gen --count=0', '--mode one --large 1 --segments 1',
+                      '--count 100000 --slots 16 --seed 18446744073709551615 --mode gen'):
+            self.assertIsNone(advice.words_fault(words.split()), words)
         for words, part in [
-            ([], '--mode is missing'), (['--mdoe', 'one'], 'did you mean --mode?'), (['--mode'], 'needs a value'), (['--mode', 'on'], 'did you mean one?'),
-            (['--mode', 'one', '--segment', '2'], 'did you mean --segments?'), (['--mode', 'one', '--segments=2'], '--segments 2'),
-            (['--mode', 'one', '--segments', '17'], '1 to 16'), (['--mode', 'one', '--segments', '0'], '1 to 16'), (['--mode', 'one', '--segments', '2', 'x'], 'stands where only'),
-            (['--mode', 'one', '--large', '4097'], '0 to 4,096'), (['--mode', 'one', '--large', '1', '--segments', '1'], 'wrong place'),
+            ('--mdoe one', 'did you mean --mode?'), ('--mode', 'needs a value'), ('--mode on', 'did you mean one?'),
+            ('--mode=walk', 'no mode'), ('--mode one --segment 2', 'did you mean --segments?'), ('--mode one --segments=17', '1 to 16'), ('--mode one --segments 0', '1 to 16'),
+            ('--mode one --segments 2 x', 'is no option'), ('--mode one --large 4097', '0 to 4,096'), ('--mode one --mode=one', 'stands twice'), ('--mode gen --count 100001', '0 to 100,000'),
+            ('--slots=0 --mode one', '1 to 16'), ('--mode one --seed -1', 'needs a value'), ('--mode one --seed=-1', 'is no seed'), ('--mode one --', 'is no option'),
         ]:
-            self.assertIn(part, advice.words_fault(words))
+            self.assertIn(part, advice.words_fault(words.split()) or '', words)
 
     def test_causes_in_words(self):
         for text, parts in [
             ('alloc x', ['line 1: alloc x', 'needs 2 fields', 'alloc NAME SIZE']), ('alloc x 0x10', ['write 16']), ('alloc x -1', ['no negative']),
-            ('alloc 9 1', ['@9']), ('alloc @8 1', ['is an address']), ('lock', ['the end of the text', '1 deep']), ('realloc x 1', ['does not run it yet']),
+            ('alloc 9 1', ['@9']), ('alloc @8 1', ['is an address']), ('lock', ['the end of the text', '1 deep']), ('realloc x 1\ncompact', ['line 2: compact', 'does not run it yet']),
             ('thread\nthread', ['line 2: thread', 'one caller']),
         ]:
             fault = advice.script_fault(text.encode())

@@ -13,6 +13,7 @@ use Rattle.command_run.specs.Commands.{calls_of, values_after, in_threads}
 -- a command that the program runs
 abbrev pub IsServed : Command → Type 0
 IsServed (commands.Alloc name n zero) = Unit {0}
+IsServed (commands.Realloc target n in_place) = Unit {0}
 IsServed (commands.Free target) = Unit {0}
 IsServed (commands.Size target) = Unit {0}
 IsServed (commands.Get target index) = Unit {0}

@@ -7,7 +7,7 @@ use Rattle.script_text.specs.ThreadLines.{ThreadLines}
 
 abbrev pub is_built : Command → Bool
 is_built (commands.Alloc name n zero) = true
-is_built (commands.Realloc target n in_place) = false
+is_built (commands.Realloc target n in_place) = true
 is_built (commands.Free target) = true
 is_built (commands.Size target) = true
 is_built (commands.Get target index) = true

@@ -216,10 +216,10 @@ fn first_command_that_is_not_built(rt: HostRuntime) -> Result<(), Fail> {
     let alloc = rt.alloc();
     let script = read_script(
         alloc,
-        b"alloc a 131073\nzalloc b 520193\nput a 0 1\nget a 0\nsize b\nfree a\n",
+        b"alloc a 131073\nzalloc b 520193\nrealloc a 16\ninplace a 8\nput a 0 1\nget a 0\nsize b\nfree a\n",
     )?;
     assert_eq!(rt; script.first_unbuilt(), None);
-    let script = read_script(alloc, b"alloc a 16\n\ninplace a 8\nwalk\n")?;
+    let script = read_script(alloc, b"alloc a 16\n\nlock\nwalk\nunlock\n")?;
     assert_eq!(rt; script.first_unbuilt(), Some(3));
     let script = read_script(alloc, b"lock\nunlock\ncompact\n")?;
     assert_eq!(rt; script.first_unbuilt(), Some(1));

@@ -9,15 +9,12 @@ fn is_built(command: Command) -> bool
 {
     match command {
         Command::Alloc { .. }
+        | Command::Realloc { .. }
         | Command::Free { .. }
         | Command::Size { .. }
         | Command::Get { .. }
         | Command::Put { .. } => true,
-        Command::Realloc { .. }
-        | Command::Lock
-        | Command::Unlock
-        | Command::Walk
-        | Command::Compact => false,
+        Command::Lock | Command::Unlock | Command::Walk | Command::Compact => false,
     }
 }
 

@@ -1,8 +1,9 @@
 // Words that are no text, and sources and sinks that fail at each of their calls in turn.
 use super::{BLOCK, BLOCK_REPORT, ONE_SEGMENT, drawn_script, words_of};
 use crate::arguments::words_given;
-use crate::run::{run_one, run_words};
-use outside_io::{BytesSink, BytesSource, PlainSink, PlainSource};
+use crate::run::run_one;
+use crate::top::run_words;
+use outside_io::{BytesSink, BytesSource, NoPace, PlainSink, PlainSource};
 use std::alloc::Global;
 use std::env::FillError;
 use std::process::Abort;
@@ -156,7 +157,7 @@ fn words_of_bytes(rt: HostRuntime) -> Result<(), Fail> {
         assert_eq!(rt; given[1].as_slice(), one);
         let mut source = PlainSource::new(alloc, BLOCK.as_bytes())?;
         let mut sink = PlainSink::new(alloc);
-        let ran = run_words(alloc, &given, &mut source, &mut sink);
+        let ran = run_words(&rt, alloc, &given, &mut source, &mut sink, &NoPace);
         assert_eq!(rt; ran.status, status);
         assert_eq!(rt; sink.held(), due.as_bytes());
     }

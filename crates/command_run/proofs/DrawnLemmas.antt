@@ -1,0 +1,54 @@
+-- The commands of a script that is drawn are served.
+use Rattle.std.proofs.Common.{◌≡◌, ℕ, zero, suc, ◌==◌, Bool, true, false, List, [], ◌∷◌, ◌++◌, map, sym, subst, append-nil}
+use Rattle.std.specs.Prelude.{nat_lt, if◌then◌else◌}
+use Rattle.std.specs.List.{AllByRecursion}
+use Rattle.script_text.specs.declared.commands.Command.{Command}
+use Rattle.script_text.specs.declared.commands.Command.TheVariants as commands
+use Rattle.script_text.specs.declared.commands.CommandLine.{CommandLine}
+use Rattle.script_text.specs.declared.commands.Target.TheVariants as targets
+use Rattle.script_text.specs.Generator.{name_draw, value_draw, size_of, on_held, command_on, is_held, name_of, choice_of, drawn, numbered, without_line, command_lines, names_drawn, generated}
+use Rattle.script_text.specs.Scripts.{command_of, commands_of}
+use Rattle.command_run.specs.Commands.{in_rounds}
+use Rattle.command_run.specs.Running.{IsServed, AreServed}
+
+module _ (names : List (List ℕ)) where
+  -- a command is served, whatever number its name has
+  abbrev IsRun : Command → Type 0
+  IsRun c = IsServed (numbered names c)
+
+  chosen : (name b : ℕ) (frees moves : Bool)
+      → IsRun (if frees then commands.Free (targets.Name name) else if moves then commands.Realloc (targets.Name name) (size_of b) false else commands.Put (targets.Name name) 0 b)
+  chosen name b true moves = tt
+  chosen name b false true = tt
+  chosen name b false false = tt
+
+  each : (held : Bool) (choice name b : ℕ) → IsRun (command_on held choice name b)
+  each true choice name b = chosen name b (nat_lt choice 2) (choice == 2)
+  each false choice name b = tt
+
+  one_more : (cs : List Command) (c : Command) → AllByRecursion IsRun cs → IsRun c → AllByRecursion IsRun (cs ++ c ∷ [])
+  one_more [] c all last = (last, tt)
+  one_more (x ∷ xs) c all last = (all.0, one_more xs c all.1 last)
+
+  all_run : (seed count : ℕ) → AllByRecursion IsRun (drawn seed count)
+  all_run seed zero = tt
+  all_run seed (suc k) =
+      let a = name_draw seed k in
+      let b = value_draw seed k in
+      one_more (drawn seed k) (command_on (is_held (drawn seed k) (name_of a)) (choice_of a) (name_of a) b) (all_run seed k)
+      (each (is_held (drawn seed k) (name_of a)) (choice_of a) (name_of a) b)
+
+-- what holds of each element, of what it is mapped to
+mapped : {A B : Type 0} (P : B → Type 0) (f : A → B) (xs : List A) → AllByRecursion (λ x. P (f x)) xs → AllByRecursion P (map f xs)
+mapped P f [] all = tt
+mapped P f (x ∷ xs) all = (all.0, mapped P f xs all.1)
+
+pub drawn_served : (count seed : ℕ) → AreServed (in_rounds (commands_of (generated count seed)))
+unfolding generated
+drawn_served count seed =
+    let names = names_drawn seed count in
+    let lines = command_lines names (drawn seed count) in
+    let commands : List Command = map command_of lines in
+    let all : AreServed commands =
+    mapped IsServed command_of lines (mapped (λ (l : CommandLine). IsServed (command_of l)) (λ c. without_line (numbered names c)) (drawn seed count) (all_run names seed count)) in
+    subst AreServed (sym (append-nil (commands ++ []))) (subst AreServed (sym (append-nil commands)) all)
