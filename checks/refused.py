@@ -28,6 +28,7 @@ from heap_tools import common, report, script, story    # noqa: E402
 MOST_READ = 1_048_577
 SECONDS = 60
 WORDS = ('--mode', 'one', '--segments', '1', '--large', '128')
+THREADED = ('--segments', '1', '--large', '256')
 
 SHORT = b"""alloc x 24
 put x 0 7
@@ -52,6 +53,70 @@ blocks 2 bytes 40
 
 # Blocks of all layers, and so many names, replies and blocks that each list grows a few times.
 LONG = ''.join(f'alloc x{i} 16\n' for i in range(40)) + 'alloc b 131073\nzalloc c 520193\nput c 65024 7\nget c 65024\nfree x3\nfree x3\nsize b\nalloc d 600000\n'
+
+
+# Two threads in each of three rounds, whose replies no order of the threads changes.
+TWO = b"""thread
+alloc x 200000
+put x 0 5
+thread
+alloc y 600000
+round
+thread
+free y
+thread
+realloc x 300000
+get x 0
+round
+thread
+lock
+walk
+unlock
+thread
+size x
+"""
+
+# Four threads in three rounds, blocks of all layers that other threads free. Where they stand hangs on the order; at the end none is left.
+FOUR = b"""round
+thread
+alloc a0 8
+alloc a1 40
+alloc a2 600000
+thread
+alloc b0 24
+alloc b1 4096
+alloc b2 200000
+thread
+alloc c0 100
+alloc c1 16368
+thread
+alloc d0 70000
+zalloc d1 512
+round
+thread
+free b0
+realloc b1 9000
+thread
+free a0
+realloc a1 64
+thread
+free d0
+thread
+put c0 0 7
+get c0 0
+round
+thread
+free a1
+free a2
+thread
+free b1
+free b2
+thread
+free c0
+free c1
+thread
+free d1
+"""
 
 
 class Tally:
@@ -107,14 +172,25 @@ def refusals(program, library, folder, words, text):
         number += 1
 
 
+def empties(found):
+    """The status, and whether the report ends without a block."""
+    return found[0], found[1].endswith(b'blocks 0 bytes 0\n')
+
+
+def whole(found):
+    return found
+
+
 def try_memory(tally, program, library, folder):
-    for what, words, text in (
-            ('a short script', WORDS, SHORT), ('a long script', WORDS, LONG.encode()), ('the largest heap', ('--mode', 'one'), SHORT), ('no script', WORDS, b''),
-            ('a refused script', WORDS, b'alloc x\n'), ('wrong words', ('--mode',), b''), ('a long word', ('--mode', 'o' * 5_000), b'')):
-        due = program.run(words, text)
+    for what, words, text, seen in (
+            ('a short script', WORDS, SHORT, whole), ('a long script', WORDS, LONG.encode(), whole), ('the largest heap', ('--mode', 'one'), SHORT, whole),
+            ('no script', WORDS, b'', whole), ('a refused script', WORDS, b'alloc x\n', whole), ('wrong words', ('--mode',), b'', whole),
+            ('a long word', ('--mode', 'o' * 5_000), b'', whole), ('two threads', THREADED, TWO, whole), ('four threads', (), FOUR, empties),
+            ('a script that is drawn', ('--mode', 'gen', '--count', '60', '--segments', '1'), b'', whole)):
+        due = seen(program.run(words, text))
         ends = {6: 0, due[0]: 0}
         for number, status, out in refusals(program, library, folder, words, text):
-            tally.check(f'{what}, allocation {number} refused', (status, out), (6, b'') if status == 6 else due)
+            tally.check(f'{what}, allocation {number} refused', (status, out) if status == 6 else seen((status, out)), (6, b'') if status == 6 else due)
             ends[status] = ends.get(status, 0) + 1
         print(f'{what}: {sum(ends.values())} allocations, each refused in turn: {ends[6]} runs ended with 6, {ends[due[0]]} as without a refusal')
         tally.check(f'{what}, that allocations are refused', ends[6] > 0, True)
@@ -162,7 +238,8 @@ def try_outputs(tally, program):
     full = os.open('/dev/full', os.O_WRONLY)
     for what, words, given in (
             ('a report', WORDS, SHORT), ('a long report', WORDS, LONG.encode()), ('wrong words', ('--mode',), b''), ('a refused script', WORDS, b'alloc x\n'),
-            ('a failed read', WORDS, folder)):
+            ('a failed read', WORDS, folder), ('a report of threads', (), FOUR), ('threads with a failed read', (), folder),
+            ('a summary', ('--mode', 'gen', '--count', '10'), b'')):
         tally.check(f'{what} on a full device', status_into(program, words, given, full), 5)
         tally.check(f'{what} on a closed output', status_into(program, words, given, None), 5)
         for ignored in (True, False):
