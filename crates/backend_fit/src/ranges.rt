@@ -14,7 +14,7 @@ use crate::is_free;
 use crate::page_bits::{clear, first_in, insert};
 use heap_model::{HEADER_PAGES, Limits, Mark, OutOfMemory, Run, SEGMENT_PAGES};
 use page_ranges::Descs;
-use std::alloc::Global;
+use std::alloc::{AllocError, Global};
 use std::marker::Model;
 
 /// The most pages of a back end, by words of 64.
@@ -25,7 +25,7 @@ const WORDS: usize = 64;
 pub(crate) struct Ranges {
     descs: Descs,
     /// The first pages of the free runs.
-    starts: [u64; WORDS],
+    starts: Box<[u64; WORDS]>,
     /// No free run is longer.
     longest: u32,
 }
@@ -38,7 +38,7 @@ impl Model for Ranges {
 
     ghost view = { λ r. r.descs };
 
-    ghost invariant = { λ r. AreStarts r.starts r.longest r.descs };
+    ghost invariant = { λ r. AreStarts r.starts.value r.longest r.descs };
 }
 
 impl Ranges {
@@ -48,9 +48,13 @@ impl Ranges {
         ensures words { IfOk result (λ r. r ≡ replicate (256 * limits.now.segments) 0) }
     {
         let descs = Descs::new(alloc, limits)?;
+        let starts = match Box::new(alloc, [0; WORDS]) {
+            Ok(starts) => starts,
+            Err(failed) => return Err(AllocError::from(failed).into()),
+        };
         Ok(Ranges {
             descs,
-            starts: [0; WORDS],
+            starts,
             longest: 0,
         })
     }
@@ -93,7 +97,7 @@ impl Ranges {
         ensures { result ≡ find (is_free_from from) (runs_of self.now) }
     {
         let _pages = self.descs.pages();
-        let page = first_in(&self.starts, from, to)?;
+        let page = first_in(&*self.starts, from, to)?;
         Some(self.descs.run_at(page))
     }
 
@@ -125,7 +129,7 @@ impl Ranges {
         self.descs.open_segment(segment);
         let pages = SEGMENT_PAGES - HEADER_PAGES;
         note(
-            &mut self.starts,
+            &mut *self.starts,
             SEGMENT_PAGES * segment + HEADER_PAGES,
             pages,
             true,
@@ -144,7 +148,7 @@ impl Ranges {
         let _pages = self.descs.pages();
         let free = is_free(mark.kind);
         self.descs.mark(first, n, mark);
-        note(&mut self.starts, first, n, free);
+        note(&mut *self.starts, first, n, free);
         if free {
             self.longest = self.longest.max(n);
         }

@@ -24,7 +24,7 @@ fn opened(
 {
     let vs = Vs::new(alloc, &limits, key_of(seed))?;
     let back = Back::new(alloc, &limits)?;
-    let large = Large::new(&limits);
+    let large = Large::new(alloc, &limits)?;
     open(
         alloc,
         limits,

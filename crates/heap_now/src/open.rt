@@ -23,7 +23,7 @@ pub fn open_heap(
 {
     let vs = Vs::new(alloc, &limits, key_of(seed))?;
     let back = Back::new(alloc, &limits)?;
-    let large = Large::new(&limits);
+    let large = Large::new(alloc, &limits)?;
     heap_gate::open(
         alloc,
         limits,

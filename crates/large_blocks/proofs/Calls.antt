@@ -5,7 +5,7 @@ use Rattle.std.specs.List.{find, refill}
 use Rattle.std.proofs.Math.Seq.{drop-cons, take-length}
 use Rattle.std.proofs.Math.ListN.{drop_of_length-le}
 use Rattle.std.proofs.lemmas.Bool.{and_parts, leb-true}
-use Rattle.std.proofs.lemmas.List.{length-append, append-nil, length-set, take-append-drop}
+use Rattle.std.proofs.lemmas.List.{length-append, append-nil, take-append-drop}
 use Rattle.heap_model.specs.declared.Block.{Block}
 use Rattle.heap_model.specs.Geometry.{pages_of}
 use Rattle.heap_model.specs.State.{change_found, remove_found}
@@ -109,11 +109,8 @@ refill_whole xs ws e =
 same_item : (xs : List LargeBlock) (index : ℕ) (d e : LargeBlock) → index < length xs → get_or xs index d ≡ get_or xs index e
 same_item xs index d e i = let f = drop-cons xs index d i in let g = drop-cons xs index e i in let h : get_or xs index d ∷ drop (suc index) xs ≡ get_or xs index e ∷ drop (suc index) xs = sym f ∙ g in cc
 
-pub size_is_set : (xs ws : List LargeBlock) (index n : ℕ) (d e : LargeBlock) → ws ≡ xs → index < length xs → refill (length xs) xs (set ws index (with_bytes n (get_or ws index d))) ≡ set xs index (with_bytes n (get_or xs index e))
-size_is_set xs ws index n d e f i =
-    ap (λ (ys : List LargeBlock). refill (length xs) xs (set ys index (with_bytes n (get_or ys index d)))) f
-    ∙ refill_whole xs (set xs index (with_bytes n (get_or xs index d))) (length-set xs index (with_bytes n (get_or xs index d)))
-    ∙ ap (λ (b : LargeBlock). set xs index (with_bytes n b)) (same_item xs index d e i)
+pub size_is_set : (xs : List LargeBlock) (index n : ℕ) (d e : LargeBlock) → d ≡ get_or xs index d → index < length xs → set xs index (with_bytes n d) ≡ set xs index (with_bytes n (get_or xs index e))
+size_is_set xs index n d e f i = ap (λ (b : LargeBlock). set xs index (with_bytes n b)) (f ∙ same_item xs index d e i)
 
 module _ (inner : LargeTable) (bs : List LargeBlock) (addr n index : ℕ) (sound : IsSound inner) (f : bs ≡ inner.blocks) (row : IsRow bs addr index) where
   r : IsRow inner.blocks addr index

@@ -4,14 +4,15 @@
 //! at the front of the lowest run of free pages that has them. The published description of the segment heap gives such blocks to the system's
 //! virtual memory; the area, its place and the lowest fit are this project's own.
 //!
-//! The table of blocks lies in the value itself, so no call takes memory. It has room for 32, which are never exceeded: each block has 128
-//! pages or more.
+//! The table of blocks takes the memory for 32 when it is made, which are never exceeded, since each block has 128 pages or more: so no
+//! later call takes memory.
 #![tactic(auto)]
 
 #[cfg(test)]
 mod tests;
 
-ghost use Rattle.std.specs.Prelude.{◌≡◌, ◌+◌, ◌-◌, ◌*◌, ◌/◌, ◌<◌, ◌≤◌, ◌&&◌, nat_le, nat_lt, IfSome, IfNone, IsSome, is_some, length, [], drop, map, option_map, slice_set, slice_index_or};
+ghost use Rattle.std.specs.Prelude.{◌≡◌, ◌+◌, ◌-◌, ◌*◌, ◌/◌, ◌<◌, ◌≤◌, ◌&&◌, nat_le, nat_lt, IfOk, IfSome, IfNone, IsSome, is_some, length, [], drop, map, option_map, slice_set, slice_index_or};
+ghost use Rattle.std.specs.Vec.{vec_capacity};
 ghost use Rattle.std.specs.Bool.{OnTrue, OnFalse};
 ghost use Rattle.std.specs.List.{find, position};
 ghost use Rattle.heap_model.specs.Geometry.{pages_of};
@@ -25,8 +26,10 @@ ghost use Rattle.large_blocks.specs.Table.{place_of, places_of, layer_of, is_at,
 ghost use Rattle.large_blocks.specs.Effects.{InEach, TellsStay, Becomes, size_at, block_from, with_block, without_block, with_length};
 ghost use Rattle.large_blocks.specs.Sound.{AreLaid, IsSound, IsRoom, IsRow, page_behind, reach_at};
 
-use arrayvec::ArrayVec;
-use heap_model::{Block, Layer, Limits, MOST_PAGED, PAGE_BYTES, SEGMENT_PAGES, Stands};
+use heap_model::{
+    Block, Layer, Limits, MOST_PAGED, OutOfMemory, PAGE_BYTES, SEGMENT_PAGES, Stands,
+};
+use std::alloc::Global;
 use std::marker::Model;
 
 /// A block has 128 pages or more, and the area at most 4,096.
@@ -43,18 +46,20 @@ pub struct LargeBlock {
 #[derive(Drop)]
 pub struct Large {
     limits: Limits,
-    blocks: ArrayVec<LargeBlock, MOST_BLOCKS>,
+    blocks: Vec<LargeBlock>,
 }
 
 impl Model for Large {
     ghost use Rattle.large_blocks.specs.Table.{LargeTable};
     ghost use Rattle.large_blocks.specs.Sound.{IsSound};
+    ghost use Rattle.std.specs.Prelude.{◌≤◌};
+    ghost use Rattle.std.specs.Vec.{vec_capacity};
 
     ghost Value = { LargeTable };
 
     ghost view = { λ l. record { limits = l.limits; blocks = l.blocks.items } };
 
-    ghost invariant = { λ l. IsSound (record { limits = l.limits; blocks = l.blocks.items }) };
+    ghost invariant = { λ l. IsSound (record { limits = l.limits; blocks = l.blocks.items }) × (32 ≤ vec_capacity l.blocks) };
 }
 
 impl Stands for Large {
@@ -64,17 +69,18 @@ impl Stands for Large {
 }
 
 impl Large {
-    /// No block, in a heap with these limits.
-    pub fn new(limits: &Limits) -> Large
+    /// No block, in a heap with these limits. It takes all the memory that it will ever use.
+    pub fn new(alloc: Global, limits: &Limits) -> Result<Large, OutOfMemory>
         requires { AreValid limits.now }
-        ensures limits { result.limits ≡ limits.now }
-        ensures blocks { result.blocks ≡ [] }
-        ensures stands { (o : Opening) → o.limits ≡ limits.now → StandsForLarge o opening (layer_of result) }
+        ensures limits { IfOk result (λ large. large.limits ≡ limits.now) }
+        ensures blocks { IfOk result (λ large. large.blocks ≡ []) }
+        ensures stands { IfOk result (λ large. (o : Opening) → o.limits ≡ limits.now → StandsForLarge o opening (layer_of large)) }
     {
-        Large {
+        let blocks = Vec::with_capacity(alloc, MOST_BLOCKS)?;
+        Ok(Large {
             limits: *limits,
-            blocks: ArrayVec::new(),
-        }
+            blocks,
+        })
     }
 
     /// Whether there is a free run for a block of `n` bytes.
@@ -102,7 +108,7 @@ impl Large {
             addr: room.addr,
             size: n,
         };
-        self.blocks.insert(room.index, block);
+        self.blocks.insert(room.index, block).unwrap();
         Some(room.addr)
     }
 
@@ -242,9 +248,10 @@ fn position_of(blocks: &[LargeBlock], addr: u64) -> Option<usize>
     blocks.iter().position(|block| block.addr == addr)
 }
 
-fn set_size(blocks: &mut ArrayVec<LargeBlock, MOST_BLOCKS>, index: usize, n: u64)
+fn set_size(blocks: &mut Vec<LargeBlock>, index: usize, n: u64)
     requires { index < length blocks.old.items }
-    ensures { (d : LargeBlock) → blocks.new.items ≡ slice_set blocks.old.items index (with_bytes n (slice_index_or blocks.old.items index d)) }
+    ensures capacity { vec_capacity blocks.new ≡ vec_capacity blocks.old }
+    ensures items { (d : LargeBlock) → blocks.new.items ≡ slice_set blocks.old.items index (with_bytes n (slice_index_or blocks.old.items index d)) }
 {
     blocks[index].size = n;
 }

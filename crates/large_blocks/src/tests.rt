@@ -62,7 +62,12 @@ fn is_answered(large: &mut Large, step: Step) -> bool {
 }
 
 /// The first step that is answered otherwise, of a heap with so many large pages behind so many segments.
-fn first_wrong(segments: u32, large_pages: u32, steps: &[Step]) -> Option<usize>
+fn first_wrong(
+    alloc: Global,
+    segments: u32,
+    large_pages: u32,
+    steps: &[Step],
+) -> Result<Option<usize>, OutOfMemory>
     requires some { 1 ≤ segments }
     requires segments { segments ≤ 16 }
     requires pages { large_pages ≤ 4096 }
@@ -73,32 +78,36 @@ fn first_wrong(segments: u32, large_pages: u32, steps: &[Step]) -> Option<usize>
         slots: 1,
         callers: 1,
     };
-    let mut large = Large::new(&limits);
+    let mut large = Large::new(alloc, &limits)?;
     for (i, step) in steps.iter().enumerate() {
         if !is_answered(&mut large, *step) {
-            return Some(i);
+            return Ok(Some(i));
         }
     }
-    None
+    Ok(None)
 }
 
 #[test]
-fn the_least_block_needs_128_pages(rt: HostRuntime) {
+fn the_least_block_needs_128_pages(rt: HostRuntime) -> Result<(), Fail> {
     let steps = [
         Take(520_193, Some(1_048_576)),
         Find(1_048_576, Some(520_193)),
         Take(520_193, None),
     ];
-    assert_eq!(rt; first_wrong(1, 128, &steps), None);
-    assert_eq!(rt; first_wrong(1, 127, &[Take(520_193, None)]), None);
+    assert_eq!(rt; first_wrong(rt.alloc(), 1, 128, &steps)?, None);
     assert_eq!(rt;
-        first_wrong(16, 1024, &[Take(600_000, Some(16_777_216))]),
+        first_wrong(rt.alloc(), 1, 127, &[Take(520_193, None)])?,
         None
     );
+    assert_eq!(rt;
+        first_wrong(rt.alloc(), 16, 1024, &[Take(600_000, Some(16_777_216))])?,
+        None
+    );
+    Ok(())
 }
 
 #[test]
-fn sizes_near_the_largest_have_no_run(rt: HostRuntime) {
+fn sizes_near_the_largest_have_no_run(rt: HostRuntime) -> Result<(), Fail> {
     let steps = [
         Take(18_446_744_073_709_551_615, None),
         Take(18_446_744_073_709_547_521, None),
@@ -108,12 +117,13 @@ fn sizes_near_the_largest_have_no_run(rt: HostRuntime) {
         Resize(1_048_576, 18_446_744_073_709_551_615, false),
         Resize(1_048_576, 16_777_217, false),
     ];
-    assert_eq!(rt; first_wrong(1, 4096, &steps), None);
+    assert_eq!(rt; first_wrong(rt.alloc(), 1, 4096, &steps)?, None);
+    Ok(())
 }
 
 /// A block of 600,000 bytes has 147 pages, all that there are; 100 bytes are none of this layer.
 #[test]
-fn a_block_of_147_pages(rt: HostRuntime) {
+fn a_block_of_147_pages(rt: HostRuntime) -> Result<(), Fail> {
     let steps = [
         Take(600_000, Some(1_048_576)),
         Resize(1_048_576, 100, false),
@@ -126,12 +136,13 @@ fn a_block_of_147_pages(rt: HostRuntime) {
         Find(1_048_576, None),
         Next(0, None),
     ];
-    assert_eq!(rt; first_wrong(1, 147, &steps), None);
+    assert_eq!(rt; first_wrong(rt.alloc(), 1, 147, &steps)?, None);
+    Ok(())
 }
 
 /// Three blocks of 130 pages. The middle one can have the pages behind it once the last one is gone, and gives them back.
 #[test]
-fn the_pages_behind_a_block_are_its_room(rt: HostRuntime) {
+fn the_pages_behind_a_block_are_its_room(rt: HostRuntime) -> Result<(), Fail> {
     let (a, b, c) = (1_048_576, 1_581_056, 2_113_536);
     let steps = [
         Take(532_480, Some(a)),
@@ -151,7 +162,8 @@ fn the_pages_behind_a_block_are_its_room(rt: HostRuntime) {
         Take(532_480, Some(a)),
         Find(a + 4096, None),
     ];
-    assert_eq!(rt; first_wrong(1, 390, &steps), None);
+    assert_eq!(rt; first_wrong(rt.alloc(), 1, 390, &steps)?, None);
+    Ok(())
 }
 
 /// The pages of an area, each looked at by itself, and the blocks in them by their first page and their pages.
@@ -212,7 +224,7 @@ fn both_give(large: &mut Large, plain: &mut Plain, number: usize) -> bool {
     give(large, address_of(page))
 }
 
-fn whole_area(alloc: Global) -> Result<(Large, Plain), AllocError> {
+fn whole_area(alloc: Global) -> Result<(Large, Plain), OutOfMemory> {
     let limits = Limits {
         segments: 2,
         large_pages: 4096,
@@ -223,7 +235,7 @@ fn whole_area(alloc: Global) -> Result<(Large, Plain), AllocError> {
         used: vec![in alloc; false; 4096]?,
         blocks: Vec::new(alloc),
     };
-    Ok((Large::new(&limits), plain))
+    Ok((Large::new(alloc, &limits)?, plain))
 }
 
 /// Blocks of the least size fill the table and the area at once, whatever order they go and come in.

@@ -53,7 +53,7 @@ fn one_block(alloc: Global) -> Result<Image, OutOfMemory>
     descs.open_segment(0);
     descs.mark(2, 33, BLOCK);
     descs.mark(35, 221, Mark::FREE);
-    let large = Large::new(&ONE_SEGMENT);
+    let large = Large::new(alloc, &ONE_SEGMENT)?;
     let words = empty_words(alloc)?;
     Ok(Image {
         limits: ONE_SEGMENT,
@@ -79,7 +79,7 @@ fn four_blocks<R: Abort>(rt: &R, alloc: Global) -> Result<Image, OutOfMemory>
     descs.mark(2, 16, Mark::VS);
     descs.mark(18, 33, BLOCK);
     descs.mark(51, 205, Mark::FREE);
-    let large = Large::new(&ONE_SEGMENT);
+    let large = Large::new(alloc, &ONE_SEGMENT)?;
     let words = empty_words(alloc)?;
     let mut image = Image {
         limits: ONE_SEGMENT,
@@ -109,7 +109,7 @@ fn five_blocks<R: Abort>(rt: &R, alloc: Global) -> Result<Image, OutOfMemory>
     descs.mark(2, 1, SUBSEGMENT);
     descs.mark(3, 33, BLOCK);
     descs.mark(36, 220, Mark::FREE);
-    let large = Large::new(&ONE_SEGMENT);
+    let large = Large::new(alloc, &ONE_SEGMENT)?;
     let words = words_of_four_blocks(alloc)?;
     assert!(rt; are_small(&words));
     Ok(Image {

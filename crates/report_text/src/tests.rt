@@ -60,7 +60,7 @@ fn three_blocks<R: Abort>(rt: &R, alloc: Global) -> Result<Image, OutOfMemory>
     descs.mark(2, 16, Mark::VS);
     descs.mark(18, 33, BLOCK);
     descs.mark(51, 205, Mark::FREE);
-    let large = Large::new(&ONE_SEGMENT);
+    let large = Large::new(alloc, &ONE_SEGMENT)?;
     let words = empty_words(alloc)?;
     let mut image = Image {
         limits: ONE_SEGMENT,
@@ -89,7 +89,7 @@ fn two_small_blocks<R: Abort>(rt: &R, alloc: Global) -> Result<Image, OutOfMemor
     descs.mark(2, 1, SUBSEGMENT);
     descs.mark(3, 33, BLOCK);
     descs.mark(36, 220, Mark::FREE);
-    let large = Large::new(&ONE_SEGMENT);
+    let large = Large::new(alloc, &ONE_SEGMENT)?;
     let words = words_of_two_blocks(alloc)?;
     assert!(rt; are_small(&words));
     Ok(Image {

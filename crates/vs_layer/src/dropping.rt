@@ -9,13 +9,13 @@ ghost use Rattle.vs_layer.specs.Effects.{TellsLast, HasDropped};
 ghost use Rattle.vs_layer.specs.Standing.{Becomes, without_block, without_closed};
 ghost use Rattle.vs_layer.specs.Steps.{is_free_before, is_free_after, TakesInBehind, IsTakenBefore};
 
-use crate::{Tiling, Vs};
+use crate::{Body, Tiling};
 use heap_model::{GRANULE_BYTES, PAGE_GRANULES};
 use vs_headers::Head;
 
-impl Vs {
+impl Body {
     /// The size of the block that begins at an address, None where no block does.
-    pub fn find(&self, addr: u64) -> Option<u64>
+    pub(crate) fn find(&self, addr: u64) -> Option<u64>
         ensures { result ≡ option_and_then (λ p. live_size p.status) (block_at self.now addr) }
     {
         if addr < GRANULE_BYTES {
@@ -30,7 +30,7 @@ impl Vs {
     }
 
     /// Whether the block at an address is the last one of its span, so that to drop it closes the span.
-    pub fn empties(&self, addr: u64) -> bool
+    pub(crate) fn empties(&self, addr: u64) -> bool
         requires { (p : Place) × (block_at self.now addr ≡ Some p) }
         ensures { TellsLast self.now addr result }
     {
@@ -41,7 +41,7 @@ impl Vs {
 
     /// Drops the block at an address. The gaps on both sides become one with its place. Where no block is left in the span,
     /// it is closed, and its first page and its pages are answered: the caller gives it back to the back end.
-    pub fn drop_block(&mut self, addr: u64) -> Option<(u32, u32)>
+    pub(crate) fn drop_block(&mut self, addr: u64) -> Option<(u32, u32)>
         requires { (p : Place) × (block_at self.old addr ≡ Some p) }
         ensures dropped { HasDropped self.old self.new addr result }
         ensures limits { self.new.limits ≡ self.old.limits }

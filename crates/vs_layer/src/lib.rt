@@ -10,6 +10,7 @@
 //! gaps, and walks no span.
 #![tactic(auto)]
 
+mod boxed;
 mod counting;
 mod dropping;
 mod index;
@@ -31,6 +32,7 @@ ghost use Rattle.heap_model.specs.Layers.{StandsForVs, header_key};
 ghost use Rattle.vs_layer.specs.Effects.{nothing_kept, ShowsChunks};
 ghost use Rattle.vs_layer.specs.Standing.{layer_of, Becomes, with_active};
 
+pub use boxed::Vs;
 use counting::Counts;
 use heap_model::{
     FRONT_GRANULES, GRANULE_BYTES, Limits, OutOfMemory, PAGE_BYTES, SEGMENT_PAGES, Stands, filled,
@@ -54,11 +56,9 @@ const DUE_LIVE: u32 = 17;
 
 const DUE_SERVED: u16 = 2040;
 
-/// The variable-size layer of a heap, made for some limits. Contracts see its spans, its chunks, which buckets it has served,
-/// and which are active. The live blocks, by address, are `places_of` it, and `layer_of` is the part of a heap that its lock
-/// guards.
+/// What the layer keeps.
 #[derive(Drop)]
-pub struct Vs {
+pub(crate) struct Body {
     limits: Limits,
     tiling: Tiling,
     /// How many pages the span has that starts at a page, 0 where none does.
@@ -74,7 +74,7 @@ pub(crate) struct Tiling {
     index: GapSet,
 }
 
-impl Model for Vs {
+impl Model for Body {
     ghost use Rattle.std.specs.Prelude.{◌≡◌, ◌*◌, length};
     ghost use Rattle.std.specs.Vec.{vec_capacity};
     ghost use Rattle.vs_layer.specs.Kept.{VsKept};
@@ -87,21 +87,15 @@ impl Model for Vs {
     ghost invariant = { λ v. IsSound (record { limits = v.limits; spans = spans_from 0 v.pages.items; chunks = v.tiling.heads; served = v.counts.served.items; active = v.active.items }) v.pages.items v.tiling.index v.counts.live.items × (vec_capacity v.pages ≡ length v.pages.items) × (vec_capacity v.active ≡ length v.active.items) × (vec_capacity v.counts.live ≡ length v.counts.live.items) × (vec_capacity v.counts.served ≡ length v.counts.served.items) × (length v.pages.items ≡ 256 * v.limits.segments) };
 }
 
-impl Stands for Vs {
-    ghost use Rattle.vs_layer.specs.Standing.{layer_of};
-
-    ghost stands = { λ v. layer_of v };
-}
-
-impl Vs {
+impl Body {
     /// No span, in a heap with these limits and this key. It takes all the memory that it will ever use.
-    pub fn new(alloc: Global, limits: &Limits, key: u64) -> Result<Vs, OutOfMemory>
+    pub(crate) fn new(alloc: Global, limits: &Limits, key: u64) -> Result<Body, OutOfMemory>
         requires { AreValid limits.now }
         ensures nothing { IfOk result (λ v. v ≡ nothing_kept limits.now key) }
         ensures stands { IfOk result (λ v. (o : Opening) → o.limits ≡ limits.now → header_key o.seed ≡ key → StandsForVs o opening (layer_of v)) }
     {
         let pages = (SEGMENT_PAGES * limits.segments) as usize;
-        Ok(Vs {
+        Ok(Body {
             limits: *limits,
             tiling: Tiling {
                 heads: Heads::new(alloc, limits, key)?,
@@ -113,17 +107,8 @@ impl Vs {
         })
     }
 
-    /// The pages of the subsegment that is made for a block of `n` bytes.
-    pub fn span_pages(n: u64) -> u32
-        requires { n ≤ 131072 }
-        ensures { result ≡ span_pages_of n }
-    {
-        let units = FRONT_GRANULES + u32::from(units_for(n));
-        ((GRANULE_BYTES * u64::from(units)).div_ceil(PAGE_BYTES) as u32).max(LEAST_PAGES)
-    }
-
     /// Whether a bucket is to become active: at least 17 of its blocks live here, or at least 2,040 were placed here.
-    pub fn due(&self, bucket: u8) -> bool
+    pub(crate) fn due(&self, bucket: u8) -> bool
         requires { (1 ≤ bucket) × (bucket ≤ 128) }
         ensures { result ≡ is_due (part_of self.now) bucket }
     {
@@ -132,7 +117,7 @@ impl Vs {
     }
 
     /// Whether a bucket is active, so that the low-fragmentation front end serves it.
-    pub fn is_active(&self, bucket: u8) -> bool
+    pub(crate) fn is_active(&self, bucket: u8) -> bool
         requires { (1 ≤ bucket) × (bucket ≤ 128) }
         ensures { result ≡ active_of self.now bucket }
     {
@@ -140,7 +125,7 @@ impl Vs {
     }
 
     /// Makes a bucket active. It stays so.
-    pub fn set_active(&mut self, bucket: u8)
+    pub(crate) fn set_active(&mut self, bucket: u8)
         requires { (1 ≤ bucket) × (bucket ≤ 128) }
         ensures active { active_of self.new ≡ updated (active_of self.old) bucket true }
         ensures chunks { self.new.chunks ≡ self.old.chunks }
@@ -153,7 +138,7 @@ impl Vs {
     }
 
     /// The headers of all chunks.
-    pub fn heads(&self) -> &Heads
+    pub(crate) fn heads(&self) -> &Heads
         ensures chunks { result.now ≡ self.now.chunks }
         // they are the places and the gaps, and tile the spans
         ensures shown { ShowsChunks self.now }
@@ -166,11 +151,11 @@ impl Vs {
     }
 
     /// The headers of all chunks, unchanged.
-    pub fn into_heads(self) -> Heads
+    pub(crate) fn into_heads(self) -> Heads
         ensures chunks { result ≡ self.chunks }
         ensures shown { ShowsChunks self }
     {
-        let Vs { tiling, .. } = self;
+        let Body { tiling, .. } = self;
         let Tiling { heads, .. } = tiling;
         heads
     }

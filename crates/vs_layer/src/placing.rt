@@ -13,12 +13,12 @@ ghost use Rattle.heap_model.specs.Runs.{Run};
 ghost use Rattle.vs_layer.specs.Effects.{IsOfOneHeap, LieApart, HasPlaced};
 ghost use Rattle.vs_layer.specs.Standing.{Becomes, with_block};
 
-use crate::{Tiling, Vs, units_for};
+use crate::{Body, Tiling, units_for};
 use heap_model::{FRONT_GRANULES, GRANULE_BYTES, PAGE_GRANULES};
 
-impl Vs {
+impl Body {
     /// Whether a gap holds a block of `n` bytes.
-    pub fn fit(&self, n: u64) -> bool
+    pub(crate) fn fit(&self, n: u64) -> bool
         requires { n ≤ 131072 }
         ensures { result ≡ is_some (place_for self.now n) }
     {
@@ -26,7 +26,7 @@ impl Vs {
     }
 
     /// Makes a span of pages that the back end gave one gap, behind its first 48 bytes.
-    pub fn add_span(&mut self, first: u32, pages: u32)
+    pub(crate) fn add_span(&mut self, first: u32, pages: u32)
         requires pages { AreSpanPages self.old.chunks first pages }
         requires apart { AllByRecursion (LieApart first pages) self.old.spans }
         ensures spans { self.new.spans ≡ insert_span (vs_span first pages) self.old.spans }
@@ -46,7 +46,7 @@ impl Vs {
     }
 
     /// Places a block of `n` bytes at the front of the smallest gap that holds it, and answers its address.
-    pub fn place(&mut self, n: u64) -> u64
+    pub(crate) fn place(&mut self, n: u64) -> u64
         requires size { n ≤ 131072 }
         requires fits { is_some (place_for self.old n) ≡ true }
         ensures placed { HasPlaced self.old self.new n result }

@@ -13,13 +13,13 @@ ghost use Rattle.vs_layer.specs.Steps.{gap_behind, units_of_gap};
 
 use crate::dropping::size_in;
 use crate::placing::unused_in;
-use crate::{Tiling, Vs, units_for};
+use crate::{Body, Tiling, units_for};
 use heap_model::{GRANULE_BYTES, MOST_VARIABLE};
 use vs_headers::Head;
 
-impl Vs {
+impl Body {
     /// Whether the block at an address can get `n` bytes where it is: in its place and the gap right behind it.
-    pub fn room_in_place(&self, addr: u64, n: u64) -> bool
+    pub(crate) fn room_in_place(&self, addr: u64, n: u64) -> bool
         requires { (p : Place) × (block_at self.now addr ≡ Some p) }
         ensures { (p : Place) → block_at self.now addr ≡ Some p → result ≡ lets_stay self.now p n }
     {
@@ -30,7 +30,7 @@ impl Vs {
 
     /// Gives the block at an address `n` bytes where it is, and answers whether it could. Where at least 2 granules are left,
     /// they are a gap.
-    pub fn resize_in_place(&mut self, addr: u64, n: u64) -> bool
+    pub(crate) fn resize_in_place(&mut self, addr: u64, n: u64) -> bool
         requires { (p : Place) × (block_at self.old addr ≡ Some p) }
         ensures resizes { ResizesOrKeeps self.old self.new addr n result }
         ensures limits { self.new.limits ≡ self.old.limits }

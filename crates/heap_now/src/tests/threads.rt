@@ -279,7 +279,7 @@ fn check_work(rt: &impl Abort, heap: &Heap, c: &mut Caller, tallies: &[Tally], t
     alloc_all(rt, heap, c, &[(4_194_304, Ok(4_194_304))]);
 }
 
-const TURNS: u32 = 1_200;
+const TURNS: u32 = 20_004;
 
 #[test]
 fn two_threads_use_all_layers(rt: HostRuntime) -> Result<(), Fail> {

@@ -1,4 +1,4 @@
-use Rattle.std.proofs.Common.{ap, lit<}
+use Rattle.std.proofs.Common.{ap, arith}
 use Rattle.large_blocks.specs.Table.{LargeTable, with_blocks}
 use Rattle.large_blocks.proofs.Calls.{has_given, is_inside, HasGiven}
 use Rattle.large_blocks.proofs.Large.give.Goals as goal
@@ -13,16 +13,16 @@ left c = record { limits = c.self.inside.limits; blocks = c.remove.new.self.item
 gives : (c : After-remove) → HasGiven c.args.self.now (left c) c.args.addr
 unfolding opened left
 gives c =
-    has_given (opened c) c.args.self.now (left c) c.deref.result.now c.args.addr c.row_at-index.result c.self.view_is c.self.invariant c.deref.ensures.0 c.row_at-index.ensures
+    has_given (opened c) c.args.self.now (left c) c.deref.result.now c.args.addr c.row_at-index.result c.self.view_is c.self.invariant.0 c.deref.ensures.value c.row_at-index.ensures
     (ap (with_blocks (opened c)) c.remove.ensures.items)
 
 pub remove-requires : goal.remove-requires
 remove-requires c =
-    (lit< tt, is_inside (record { limits = c.self.inside.limits; blocks = c.self.inside.blocks.items }) c.deref.result.now c.args.addr c.row_at-index.result c.self.invariant c.deref.ensures.0 c.row_at-index.ensures)
+    omega (arith, c.deref.ensures.len, is_inside (record { limits = c.self.inside.limits; blocks = c.self.inside.blocks.items }) c.deref.result.now c.args.addr c.row_at-index.result c.self.invariant.0 c.deref.ensures.value c.row_at-index.ensures)
 
 pub invariant_of-self : goal.invariant_of-self
 unfolding left
-invariant_of-self c = (gives c).sound
+invariant_of-self c = ((gives c).sound, omega (arith, c.remove.ensures.capacity, c.self.invariant.1))
 
 pub returns-clause-given : goal.returns-clause-given
 unfolding left

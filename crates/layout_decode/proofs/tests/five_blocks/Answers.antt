@@ -34,7 +34,7 @@ returns g c =
     c.mark-3.ensures.marked.same_length ∙ c.mark-2.ensures.marked.same_length ∙ c.mark.ensures.marked.same_length ∙ c.open_segment.ensures.marked.same_length ∙ ap length c.in_ok-descs.ensures.words ∙ length-replicate {A = ℕ} 256 0 in
     let two = marked _ _ 1 33 c.open_segment.new.self c.mark.new.self c.mark-2.new.self words (omega arith) len c.open_segment.ensures.segment c.mark.ensures.marked c.mark-2.ensures.marked c.mark-3.ensures.marked in
     let runs = two.runs in
-    let image : Image = record { limits = ONE_SEGMENT; region = c.in_ok-region.region; descs = words; key = 11400714819323198527; heads = v; large = c.new-large.result; words = c.in_ok-words.words } in
+    let image : Image = record { limits = ONE_SEGMENT; region = c.in_ok-region.region; descs = words; key = 11400714819323198527; heads = v; large = c.in_ok-large.large; words = c.in_ok-words.words } in
     let fits = fit_small image run (subsegment image.limits refl) (c.are_small.ensures (cc)) in
     record {
       readable = record {
@@ -46,6 +46,6 @@ returns g c =
         words = c.in_ok-words.ensures;
         segments = ap (λ (h : Held). h.segments) c.in_ok-region.ensures;
         pages = len;
-        large = c.new-large.ensures.limits;
+        large = c.in_ok-large.ensures.limits;
       };
     }

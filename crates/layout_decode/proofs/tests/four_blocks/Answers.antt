@@ -33,7 +33,7 @@ returns g c =
     let same : image.descs ≡ words = c.could_cut-4.ensures.descs ∙ c.could_cut-3.ensures.descs ∙ c.could_cut-2.ensures.descs ∙ c.could_cut.ensures.descs in
     let limits : image.limits ≡ ONE_SEGMENT = c.could_cut-4.ensures.limits ∙ c.could_cut-3.ensures.limits ∙ c.could_cut-2.ensures.limits ∙ c.could_cut.ensures.limits in
     let region : image.region ≡ c.in_ok-region.region = c.could_cut-4.ensures.region ∙ c.could_cut-3.ensures.region ∙ c.could_cut-2.ensures.region ∙ c.could_cut.ensures.region in
-    let large : image.large ≡ c.new-large.result = c.could_cut-4.ensures.large ∙ c.could_cut-3.ensures.large ∙ c.could_cut-2.ensures.large ∙ c.could_cut.ensures.large in
+    let large : image.large ≡ c.in_ok-large.large = c.could_cut-4.ensures.large ∙ c.could_cut-3.ensures.large ∙ c.could_cut-2.ensures.large ∙ c.could_cut.ensures.large in
     let table : image.words ≡ c.in_ok-words.words = c.could_cut-4.ensures.words ∙ c.could_cut-3.ensures.words ∙ c.could_cut-2.ensures.words ∙ c.could_cut.ensures.words in
     let len : length words ≡ 256 =
     c.mark-3.ensures.marked.same_length ∙ c.mark-2.ensures.marked.same_length ∙ c.mark.ensures.marked.same_length ∙ c.open_segment.ensures.marked.same_length ∙ ap length c.in_ok-descs.ensures.words ∙ length-replicate {A = ℕ} 256 0 in
@@ -50,6 +50,6 @@ returns g c =
         words = rw (limits, table) c.in_ok-words.ensures;
         segments = ap (λ (h : Held). h.segments) (region ∙ c.in_ok-region.ensures) ∙ sym (ap (λ (l : Limits). l.segments) limits);
         pages = ap length same ∙ len ∙ sym (ap (λ (l : Limits). 256 * l.segments) limits);
-        large = ap (λ (t : LargeTable). t.limits) large ∙ c.new-large.ensures.limits ∙ sym limits;
+        large = ap (λ (t : LargeTable). t.limits) large ∙ c.in_ok-large.ensures.limits ∙ sym limits;
       };
     }

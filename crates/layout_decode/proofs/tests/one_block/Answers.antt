@@ -52,6 +52,6 @@ returns c =
         words = c.in_ok-words.ensures;
         segments = ap (λ (h : Held). h.segments) c.in_ok-region.ensures;
         pages = len;
-        large = c.new-large.ensures.limits;
+        large = c.in_ok-large.ensures.limits;
       };
     }

@@ -11,4 +11,4 @@ invariant_of-self c =
     let words = c.self.inside.descs in
     let whole = subst IsWhole (sym c.self.view_is) c.requires.whole in
     let none = subst (λ (ws : List ℕ). fitting c.args.n (frees_in (runs_of ws)) ≡ []) (sym c.self.view_is) c.requires.none in
-    shorter c.self.inside.starts c.self.inside.longest words c.self.invariant whole c.args.n c.min-self-inside.result c.requires.some none c.min-self-inside.ensures
+    shorter c.self.inside.starts.value c.self.inside.longest words c.self.invariant whole c.args.n c.min-self-inside.result c.requires.some none c.min-self-inside.ensures

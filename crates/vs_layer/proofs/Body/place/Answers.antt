@@ -9,7 +9,7 @@ use Rattle.vs_layer.specs.Kept.{VsKept}
 use Rattle.vs_layer.specs.Sound.{spans_from}
 use Rattle.vs_layer.proofs.Counts.{more_room, once_room}
 use Rattle.vs_layer.proofs.Standing.{places}
-use Rattle.vs_layer.proofs.Vs.place.Goals as goal
+use Rattle.vs_layer.proofs.Body.place.Goals as goal
 
 pub unwrap-all-requires : goal.unwrap-all-requires
 unwrap-all-requires c =

@@ -6,7 +6,7 @@ use Rattle.vs_layer.specs.Sound.{AreChunksSound}
 use Rattle.vs_layer.specs.Steps.{is_free_before, is_free_after}
 use Rattle.vs_layer.proofs.Blocks.{chunk_asked, busy_found}
 use Rattle.vs_layer.proofs.LastBlock.{tells_last}
-use Rattle.vs_layer.proofs.Vs.empties.Goals as goal
+use Rattle.vs_layer.proofs.Body.empties.Goals as goal
 
 pub overflow_sub-start : goal.overflow_sub-start
 overflow_sub-start c = (chunk_asked c.args.self.now c.args.addr c.requires.0 c.requires.1).low

@@ -5,7 +5,7 @@ use Rattle.vs_layer.specs.Sound.{AreChunksSound}
 use Rattle.vs_layer.specs.Steps.{gap_behind, units_of_gap}
 use Rattle.vs_layer.proofs.Blocks.{chunk_asked}
 use Rattle.vs_layer.proofs.Reach.{stays_if}
-use Rattle.vs_layer.proofs.Vs.room_in_place.Goals as goal
+use Rattle.vs_layer.proofs.Body.room_in_place.Goals as goal
 
 pub overflow_sub-start : goal.overflow_sub-start
 overflow_sub-start c = (chunk_asked c.args.self.now c.args.addr c.requires.0 c.requires.1).low

@@ -3,7 +3,7 @@ use Rattle.vs_split.specs.Chunks.{chunk_at}
 use Rattle.vs_split.proofs.TiledLemmas.{chunk_of}
 use Rattle.vs_layer.specs.Kept.{VsKept}
 use Rattle.vs_layer.proofs.Blocks.{none_below, none_without_chunk, none_in_gap, size_here}
-use Rattle.vs_layer.proofs.Vs.find.Goals as goal
+use Rattle.vs_layer.proofs.Body.find.Goals as goal
 
 pub returns-then-addr-lt-GRANULE_BYTES : goal.returns-then-addr-lt-GRANULE_BYTES
 returns-then-addr-lt-GRANULE_BYTES c = none_below c.args.self.now c.args.addr c.if-addr-lt-GRANULE_BYTES.true

@@ -2,7 +2,7 @@ use Rattle.std.proofs.Common.{◌≡◌, ◌-◌, ◌/◌, Vec, true, is_some, l
 use Rattle.heap_model.specs.Geometry.{units_of}
 use Rattle.vs_split.specs.Chunks.{chunk_at}
 use Rattle.vs_layer.specs.Kept.{VsKept, place_of, lets_stay}
-use Rattle.vs_layer.specs.contracts.Vs.{the_view}
+use Rattle.vs_layer.specs.contracts.Body.{the_view}
 use Rattle.vs_layer.specs.declared.Tiling.{Tiling}
 use Rattle.vs_layer.proofs.Blocks.{chunk_asked}
 use Rattle.vs_layer.proofs.Placed.{counters_grow}
@@ -13,8 +13,8 @@ use Rattle.vs_layer.specs.Counted.{one_less}
 use Rattle.vs_layer.specs.Sound.{spans_from}
 use Rattle.vs_layer.proofs.Counts.{more_room, less_room}
 use Rattle.vs_layer.proofs.Standing.{resizes}
-use Rattle.vs_layer.proofs.Vs.resize_in_place.Goals as goal
-use Rattle.vs_layer.proofs.Vs.resize_in_place.Goals.{After-unwrap-head}
+use Rattle.vs_layer.proofs.Body.resize_in_place.Goals as goal
+use Rattle.vs_layer.proofs.Body.resize_in_place.Goals.{After-unwrap-head}
 
 here : (c : After-unwrap-head) → IsHere (the_view c.self.inside) c.args.addr c.unwrap-head.result
 here c = here_from (the_view c.self.inside) c.args.self.now c.args.addr c.requires.0 c.unwrap-head.result c.chunk_at.result c.self.view_is c.requires.1 c.chunk_at.ensures.head c.unwrap-head.ensures

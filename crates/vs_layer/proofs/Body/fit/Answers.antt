@@ -2,7 +2,7 @@ use Rattle.std.proofs.Common.{is_some, ap, ◌∙◌}
 use Rattle.heap_model.specs.Ranges.{vs_place}
 use Rattle.vs_layer.specs.Kept.{gaps_in}
 use Rattle.vs_layer.proofs.Best.{best_is}
-use Rattle.vs_layer.proofs.Vs.fit.Goals as goal
+use Rattle.vs_layer.proofs.Body.fit.Goals as goal
 
 pub returns : goal.returns
 returns c =

@@ -11,7 +11,7 @@ use Rattle.vs_layer.proofs.Room.{spare_room}
 use Rattle.vs_layer.specs.Kept.{part_of}
 use Rattle.vs_layer.specs.Sound.{spans_from}
 use Rattle.vs_layer.proofs.Standing.{adds}
-use Rattle.vs_layer.proofs.Vs.add_span.Goals as goal
+use Rattle.vs_layer.proofs.Body.add_span.Goals as goal
 
 pub open_span-requires-clause-clear : goal.open_span-requires-clause-clear
 open_span-requires-clause-clear c =

@@ -4,7 +4,7 @@ use Rattle.vs_layer.specs.Kept.{VsKept, places_of}
 use Rattle.vs_layer.specs.Effects.{ShowsChunks}
 use Rattle.vs_layer.proofs.Inside.{in_spans}
 use Rattle.vs_layer.proofs.Shown.{shows_chunks}
-use Rattle.vs_layer.proofs.Vs.heads.Goals as goal
+use Rattle.vs_layer.proofs.Body.heads.Goals as goal
 
 pub returns-clause-shown : goal.returns-clause-shown
 returns-clause-shown c = subst ShowsChunks c.self.view_is (shows_chunks _ c.self.invariant.0.chunks c.self.invariant.0.plain)

@@ -6,14 +6,14 @@ use Rattle.vs_layer.specs.Kept.{VsKept}
 use Rattle.vs_layer.proofs.Blocks.{chunk_asked, busy_found}
 use Rattle.vs_layer.proofs.Dropped.{has_room}
 use Rattle.vs_layer.proofs.DropBlock.{some_units, few_unused, set_there, behind_there, read, freed_block, granule_fits, one_counted, sound_added, dropped_added, page_within, whole, sound_closed, dropped_closed, no_head, some_head, dropped_of_same}
-use Rattle.vs_layer.proofs.Vs.drop_block.Goals.{else-gap-eq0-via-then-gap-eq0+else-is_none, else-gap-eq0-via-else-gap-eq0}
+use Rattle.vs_layer.proofs.Body.drop_block.Goals.{else-gap-eq0-via-then-gap-eq0+else-is_none, else-gap-eq0-via-else-gap-eq0}
 use Rattle.std.proofs.Math.ListN.{set, length-set}
 use Rattle.std.specs.Vec.{vec_capacity}
 use Rattle.heap_model.specs.Buckets.{bucket_of}
 use Rattle.vs_layer.specs.Sound.{spans_from}
 use Rattle.vs_layer.proofs.Counts.{less_room}
 use Rattle.vs_layer.proofs.Standing.{drops}
-use Rattle.vs_layer.proofs.Vs.drop_block.Goals as goal
+use Rattle.vs_layer.proofs.Body.drop_block.Goals as goal
 
 pub overflow_sub-start : goal.overflow_sub-start
 overflow_sub-start c = (chunk_asked c.args.self.now c.args.addr c.requires.0 c.requires.1).low

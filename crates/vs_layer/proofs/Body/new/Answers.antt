@@ -5,7 +5,7 @@ use Rattle.vs_layer.specs.Sound.{spans_from}
 use Rattle.vs_layer.proofs.Opening.{opening_sound}
 use Rattle.vs_layer.proofs.Spans.{spans_none}
 use Rattle.vs_layer.proofs.Standing.{opens}
-use Rattle.vs_layer.proofs.Vs.new.Goals as goal
+use Rattle.vs_layer.proofs.Body.new.Goals as goal
 
 pub invariant_of-result : goal.invariant_of-result
 invariant_of-result c = (
