@@ -40,9 +40,12 @@ def line_of(name, lines):
 
 
 def used_by(lines):
-    """`heap_now` and the crates below it, in the order of crates.txt, and the libraries of the kit that they use."""
-    words = set(line_of('heap_now', lines).split(':')[1].split()) | {'heap_now'}
+    """`heap_now` and all crates that it stands on, in the order of crates.txt, and the libraries of the kit that they use."""
     ours = [line.split(':')[0].split()[0] for line in lines]
+    words, new = set(), {'heap_now'}
+    while new:
+        words |= new
+        new = {word for name in new if name in ours for word in line_of(name, lines).split(':')[1].split()} - words
     return [name for name in ours if name in words], sorted(words - set(ours))
 
 

@@ -25,6 +25,7 @@ pub fn measure_front(heap: &Heap<State>, c: &mut Caller<State>, tag: Tag, addr: 
 
 /// Takes the live block that begins at an address and gives it back, or answers `false` where no live block has it. The tag is as
 /// for [`measure_front`].
+#[inline(always)]
 pub fn drop_front(heap: &Heap<State>, c: &mut Caller<State>, tag: Tag, addr: u64) -> bool
     requires table { (c.old.table ≡ heap.now.table) × (c.old.opening ≡ heap.now.opening) }
     requires serving { (call : ACall) × IsServing c.old call [] }

@@ -51,7 +51,7 @@ module _ (a b d e : Token) (call : Call) (g : HasBegun a b call) (l : HasGone d 
   framed k x = record {
     added = first ++ (x.added ++ last);
     goes = goes_then a b e first (x.added ++ last) g.goes (goes_then b d e x.added last x.goes l.goes);
-    back = behind_more whats.Back (HasSpentFirst k) (HasSpentFirst k) first (x.added ++ last) refl (behind_then whats.Back (HasSpentFirst k) x.added last x.back refl) (λ mid h. spent_later k first mid h);
+    back = behind_more whats.Back (HasSpentFirst a k) (HasSpentFirst b k) first (x.added ++ last) refl (behind_then whats.Back (HasSpentFirst b k) x.added last x.back refl) (λ mid h. spent_later a b k first mid g.goes h);
     vs = behind_more whats.Vs (IsOneOf (acts.NoSpan k)) (IsOneOf (acts.NoSpan k)) first (x.added ++ last) refl (behind_then whats.Vs (IsOneOf (acts.NoSpan k)) x.added last x.vs refl) (λ mid i. one_behind (acts.NoSpan k) first mid i);
   }
 

@@ -38,6 +38,7 @@ pub enum First {
 
 /// Reads the hint, and then the words of the subsegment that it names. A caller that holds the back end's lock has read the hint word
 /// before, and owes no word.
+#[inline(always)]
 fn pass_from_hint<T: Stands>(heap: &Heap<T>, c: &mut Caller<T>, bucket: u8, draw: Draw) -> First
     requires table { (c.old.table ≡ heap.now.table) × (c.old.opening ≡ heap.now.opening) }
     requires whole { c.old.whole ≡ true }
@@ -72,6 +73,7 @@ fn pass_from_hint<T: Stands>(heap: &Heap<T>, c: &mut Caller<T>, bucket: u8, draw
 ///
 /// A search that is spent has found the hint empty, has read every word in use of that subsegment without a free block, or has lost
 /// eight claims: then it may go on under the back end's lock.
+#[inline(always)]
 pub fn search_hint<T: Stands>(heap: &Heap<T>, c: &mut Caller<T>, bucket: u8, draw: Draw) -> First
     requires table { (c.old.table ≡ heap.now.table) × (c.old.opening ≡ heap.now.opening) }
     requires whole { c.old.whole ≡ true }

@@ -60,6 +60,7 @@ pub fn read_word<T: Stands>(
 
 /// Reads the words of a subsegment that are in use, from the course's first word on, until a block is claimed or the eighth claim is
 /// lost. So many claims of the call were lost before.
+#[inline(always)]
 pub fn read_subsegment<T: Stands>(
     heap: &Heap<T>,
     c: &mut Caller<T>,

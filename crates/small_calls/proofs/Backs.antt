@@ -54,7 +54,7 @@ full_later a m f n xs mid g h = record {
 }
 
 may_later : (a m f : Token) (n : ℕ) (xs mid : List Act) → GoesOn a m xs → MayTryBack m f n mid → MayTryBack a f n (xs ++ mid)
-may_later a m f n xs mid g (inl h) = inl (h.0, h.1, spent_later h.0 xs mid h.2)
+may_later a m f n xs mid g (inl h) = inl (h.0, h.1, spent_later a m h.0 xs mid g h.2)
 may_later a m f n xs mid g (inr h) = inr (full_later a m f n xs mid g h)
 
 -- behind acts that do not try it
@@ -83,7 +83,7 @@ backs_behind a m f n ys x g = record {
   added = x.late.added ++ ys;
   goes = goes_then a m f x.late.added ys x.late.goes g;
   back = behind_after whats.Back (MayTryBack a f n) x.late.added ys (behind_so whats.Back (MayTryBack a m n) (MayTryBack a f n) x.late.added (λ before may. may_still a m f n ys before g may) x.late.back)
-      (λ mid. inl (x.bucket, x.bucket_is, spent_more x.bucket x.late.added mid x.spent));
+      (λ mid. inl (x.bucket, x.bucket_is, spent_more a x.bucket x.late.added mid x.spent));
 }
 
 ---- Where VS serves the size
@@ -112,7 +112,7 @@ backs_first a m f vs n g tells x =
 
 ---- Where the first pass is spent
 
-spent_back : (a c f : Token) (n b : ℕ) (xs ys : List Act) → bucket_of n ≡ Some b → GoesOn a c xs → tries_none whats.Back xs ≡ true → ((mid : List Act) → HasSpentFirst b (xs ++ mid)) → GoesOn c f ys → HasTriedBack a f n
+spent_back : (a c f : Token) (n b : ℕ) (xs ys : List Act) → bucket_of n ≡ Some b → GoesOn a c xs → tries_none whats.Back xs ≡ true → ((mid : List Act) → HasSpentFirst a b (xs ++ mid)) → GoesOn c f ys → HasTriedBack a f n
 spent_back a c f n b xs ys e g none spent h = record {
   late = record {
     added = xs ++ ys;
@@ -126,7 +126,7 @@ spent_back a c f n b xs ys e g none spent h = record {
 
 pub tried_spent : (a c f : Token) (n b d lost : ℕ) (zero_it : Bool) → IsSpent a c n zero_it b d lost → bucket_of n ≡ Some b → (ys : List Act) → GoesOn c f ys → HasTriedBack a f n
 tried_spent a c f n b d lost zero_it x e ys h =
-    spent_back a c f n b x.spent.its ys e (goes_spent a c n b d lost zero_it x) (none_read whats.Back x.spent.its x.spent.are) (λ mid. spent_hint (record x.begun { drawn = true }) c b d lost x.spent [] mid) h
+    spent_back a c f n b x.spent.its ys e (goes_spent a c n b d lost zero_it x) (none_read whats.Back x.spent.its x.spent.are) (λ mid. spent_hint a x.begun c b d lost x.spent [] mid x.goes) h
 
 -- .. with the lock of VS
 pub under_none : (b : ℕ) (its : List Act) → (its ≡ []) ⊎ (its ≡ acts.Active b ∷ []) → tries_none whats.Back (acts.TakeLock whats.Vs ∷ its) ≡ true
@@ -138,7 +138,7 @@ tried_with_vs a c f n b d lost zero_it vs x e ys h =
     let first : List Act = acts.TakeLock whats.Vs ∷ x.its in
     let its = x.spent.spent.its in
     spent_back a c f n b (first ++ its) ys e (goes_with a c vs n b d lost zero_it x) (none-append whats.Back first its (under_none b x.its x.its_are) (none_read whats.Back its x.spent.spent.are))
-    (λ mid. spent_hint (record x.begun { drawn = true }) c b d lost x.spent.spent first mid) h
+    (λ mid. spent_hint a x.begun c b d lost x.spent.spent first mid x.goes) h
 
 pub tried_inactive : (a m c f : Token) (n b d lost : ℕ) (zero_it : Bool) (vs : VsKept) → IsInactive a m n zero_it → IsSpentUnderVs m c n zero_it b d lost vs → bucket_of n ≡ Some b → (ys : List Act) → GoesOn c f ys → HasTriedBack a f n
 tried_inactive a m c f n b d lost zero_it vs i x e ys h = tried_with_vs a c f n b d lost zero_it vs (spent_before a m c n zero_it i b d lost vs x) e ys h

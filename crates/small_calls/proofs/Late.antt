@@ -62,7 +62,7 @@ pub neither_late : (a f : Token) (b : ℕ) → TriesNeither a f → TriesLate a 
 neither_late a f b x = record {
   added = x.added;
   goes = x.goes;
-  back = behind_none whats.Back (HasSpentFirst b) x.added x.back;
+  back = behind_none whats.Back (HasSpentFirst a b) x.added x.back;
   vs = behind_none whats.Vs (IsOneOf (acts.NoSpan b)) x.added x.vs;
 }
 
@@ -71,8 +71,8 @@ neither_late a f b x = record {
 abbrev said : ℕ → Act
 said b = acts.NoSpan b
 
-pub spent_hint : (a c : Token) (b d lost : ℕ) (x : HasSpentHint a c b d lost) (front mid : List Act) → HasSpentFirst b ((front ++ x.its) ++ mid)
-spent_hint a c b d lost x front mid = spent_by b (own_slot a) d front x.its mid x.are (subst (λ (k : ℕ). IsSpentBy b (own_slot a) d k x.its) (sym x.count) x.why)
+pub spent_hint : (a m c : Token) (b d lost : ℕ) (x : HasSpentHint (record m { drawn = true }) c b d lost) (front mid : List Act) → GoesOn a m front → HasSpentFirst a b ((front ++ x.its) ++ mid)
+spent_hint a m c b d lost x front mid g = spent_by a m b d front x.its mid g x.are (subst (λ (k : ℕ). IsSpentBy b (own_slot m) d k x.its) (sym x.count) x.why)
 
 -- under the lock of the back end
 pub late_under : (c f : Token) (course : Course) (lost : ℕ) (call : Call) (n : ℕ) (zero_it : Bool) (out : List ℕ) (r : BehindSpent) → ComesUnderBack c f course lost call n zero_it out r → GoesLate c f course.bucket
@@ -129,7 +129,7 @@ module _ (a c f : Token) (n b d lost : ℕ) (zero_it : Bool) (x : IsSpent a c n 
   late_from = record {
     added = its ++ g.rest;
     goes = goes_then a c f its g.rest (goes_spent a c n b d lost zero_it x) g.goes;
-    back = behind_reason whats.Back (HasSpentFirst b) its g.rest (none_read whats.Back its x.spent.are) (λ mid. spent_hint (record x.begun { drawn = true }) c b d lost x.spent [] mid);
+    back = behind_reason whats.Back (HasSpentFirst a b) its g.rest (none_read whats.Back its x.spent.are) (λ mid. spent_hint a x.begun c b d lost x.spent [] mid x.goes);
     vs = behind_more whats.Vs (IsOneOf (said b)) (IsOneOf (said b)) its g.rest (none_read whats.Vs its x.spent.are) g.vs (λ mid i. one_behind (said b) its mid i);
   }
 
@@ -141,7 +141,7 @@ module _ (a c f : Token) (n b d lost : ℕ) (zero_it : Bool) (x : IsSpent a c n 
       let same = added_once a f whole (its ++ g.rest) (goes_then a y.at f (y.first ++ said b ∷ []) (taking ++ y.for_vs.its) y.goes y.for_vs.goes) late_from.goes in
       record {
         late = late_from;
-        spent = spent_hint (record x.begun { drawn = true }) c b d lost x.spent [] g.rest;
+        spent = spent_hint a x.begun c b d lost x.spent [] g.rest x.goes;
         said = subst (IsOneOf (said b)) same (one_before (said b) (y.first ++ said b ∷ []) (taking ++ y.for_vs.its) (one_behind (said b) y.first (said b ∷ []) (inl refl)));
       }
 
@@ -150,7 +150,7 @@ pub late_behind : (a m f : Token) (b : ℕ) (rest : List Act) → HasTriedLate a
 late_behind a m f b rest x g = record {
   added = x.late.added ++ rest;
   goes = goes_then a m f x.late.added rest x.late.goes g;
-  back = behind_after whats.Back (HasSpentFirst b) x.late.added rest x.late.back (λ mid. spent_more b x.late.added mid x.spent);
+  back = behind_after whats.Back (HasSpentFirst a b) x.late.added rest x.late.back (λ mid. spent_more a b x.late.added mid x.spent);
   vs = behind_after whats.Vs (IsOneOf (said b)) x.late.added rest x.late.vs (λ mid. one_before (said b) x.late.added mid x.said);
 }
 

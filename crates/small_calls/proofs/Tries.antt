@@ -10,6 +10,7 @@ use Rattle.heap_model.specs.declared.What.TheVariants as whats
 use Rattle.heap_model.specs.State.{Area}
 use Rattle.heap_gate.specs.Token.{Token}
 use Rattle.backend_fit.specs.Kept.{Kept, area_of}
+use Rattle.lfh_claims.specs.Search.{own_slot}
 use Rattle.lfh_search.specs.Acts.{is_reading, AreReadings, losses}
 use Rattle.lfh_search.specs.Hints.{IsSpentBy}
 use Rattle.lfh_search.specs.Results.{place}
@@ -47,29 +48,31 @@ none_came what back after b t d head i made (Made place are drawn) = subst (λ (
 
 ---- Reasons
 
-pub spent_by : (b t d : ℕ) (earlier its mid : List Act) → AreReadings its → IsSpentBy b t d (losses its) its → HasSpentFirst b ((earlier ++ its) ++ mid)
-spent_by b t d earlier its mid are why = record { earlier = earlier; its = its; later = mid; parts = append_assoc earlier its mid; are = are; slot = t; draw = d; why = why }
+pub spent_by : (a at : Token) (b d : ℕ) (earlier its mid : List Act) → GoesOn a at earlier → AreReadings its → IsSpentBy b (own_slot at) d (losses its) its → HasSpentFirst a b ((earlier ++ its) ++ mid)
+spent_by a at b d earlier its mid g are why = record { earlier = earlier; its = its; later = mid; parts = append_assoc earlier its mid; are = are; at = at; goes = g; draw = d; why = why }
 
-pub spent_more : (b : ℕ) (xs ys : List Act) → HasSpentFirst b xs → HasSpentFirst b (xs ++ ys)
-spent_more b xs ys h = record {
+pub spent_more : (a : Token) (b : ℕ) (xs ys : List Act) → HasSpentFirst a b xs → HasSpentFirst a b (xs ++ ys)
+spent_more a b xs ys h = record {
   earlier = h.earlier;
   its = h.its;
   later = h.later ++ ys;
   parts = (λ i. h.parts i ++ ys) ∙ (append_assoc h.earlier (h.its ++ h.later) ys ∙ ap (λ (l : List Act). h.earlier ++ l) (append_assoc h.its h.later ys));
   are = h.are;
-  slot = h.slot;
+  at = h.at;
+  goes = h.goes;
   draw = h.draw;
   why = h.why;
 }
 
-pub spent_later : (b : ℕ) (xs ys : List Act) → HasSpentFirst b ys → HasSpentFirst b (xs ++ ys)
-spent_later b xs ys h = record {
+pub spent_later : (a m : Token) (b : ℕ) (xs ys : List Act) → GoesOn a m xs → HasSpentFirst m b ys → HasSpentFirst a b (xs ++ ys)
+spent_later a m b xs ys g h = record {
   earlier = xs ++ h.earlier;
   its = h.its;
   later = h.later;
   parts = ap (λ (l : List Act). xs ++ l) h.parts ∙ sym (append_assoc xs h.earlier (h.its ++ h.later));
   are = h.are;
-  slot = h.slot;
+  at = h.at;
+  goes = goes_then a m h.at xs h.earlier g h.goes;
   draw = h.draw;
   why = h.why;
 }

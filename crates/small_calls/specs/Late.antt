@@ -12,6 +12,7 @@ use Rattle.heap_soundness.specs.Sound.{IsOneOf}
 use Rattle.claim_rule.specs.Entries.{entry}
 use Rattle.heap_gate.specs.Token.{Token, Always, now}
 use Rattle.call_parts.specs.Calls.{GoesOn}
+use Rattle.lfh_claims.specs.Search.{own_slot}
 use Rattle.lfh_search.specs.Acts.{AreReadings, losses}
 use Rattle.lfh_search.specs.Hints.{IsSpentBy}
 use Rattle.vs_calls.specs.Tries.{tries_none, TriesBehind, LeavesBack}
@@ -28,16 +29,17 @@ use Rattle.small_calls.specs.declared.serving.SmallCall.TheVariants as ends
 
 ---- What comes before
 
--- Among the acts are readings that spent the first pass of a search for the bucket.
-pub record HasSpentFirst (b : ℕ) (before : List Act) : Type 0 where
+-- Among the acts are readings that spent the first pass of a search for the bucket and the caller's slot.
+pub record HasSpentFirst (old : Token) (b : ℕ) (before : List Act) : Type 0 where
   pub earlier : List Act
   pub its : List Act
   pub later : List Act
   pub parts : before ≡ earlier ++ (its ++ later)
   pub are : AreReadings its
-  pub slot : ℕ
+  pub at : Token
+  pub goes : GoesOn old at earlier
   pub draw : ℕ
-  pub why : IsSpentBy b slot draw (losses its) its
+  pub why : IsSpentBy b (own_slot at) draw (losses its) its
 
 -- some caller's Active of the bucket is in the list that this one has seen
 abbrev pub HasSeenActive : Token → ℕ → Type 0
@@ -56,13 +58,13 @@ pub record TriesNeither (old new : Token) : Type 0 where
 pub record TriesLate (old new : Token) (b : ℕ) : Type 0 where
   pub added : List Act
   pub goes : GoesOn old new added
-  pub back : TriesBehind whats.Back (HasSpentFirst b) added
+  pub back : TriesBehind whats.Back (HasSpentFirst old b) added
   pub vs : TriesBehind whats.Vs (IsOneOf (acts.NoSpan b)) added
 
 -- .. and both are behind the caller
 pub record HasTriedLate (old new : Token) (b : ℕ) : Type 0 where
   pub late : TriesLate old new b
-  pub spent : HasSpentFirst b late.added
+  pub spent : HasSpentFirst old b late.added
   pub said : IsOneOf (acts.NoSpan b) late.added
 
 -- what a caller adds that has spent its first pass
@@ -103,7 +105,7 @@ pub record HasSeenFull (old new : Token) (n : ℕ) (before : List Act) : Type 0 
 
 -- An allocation of n bytes may try the lock of the back end: it has spent the first pass of its search, or has seen VS full.
 abbrev pub MayTryBack : Token → Token → ℕ → List Act → Type 0
-MayTryBack old new n before = ((b : ℕ) × (bucket_of n ≡ Some b) × HasSpentFirst b before) ⊎ HasSeenFull old new n before
+MayTryBack old new n before = ((b : ℕ) × (bucket_of n ≡ Some b) × HasSpentFirst old b before) ⊎ HasSeenFull old new n before
 
 -- The caller's list goes on by acts that try it behind such acts alone.
 pub record BacksLate (old new : Token) (n : ℕ) : Type 0 where
@@ -116,7 +118,7 @@ pub record HasTriedBack (old new : Token) (n : ℕ) : Type 0 where
   pub late : BacksLate old new n
   pub bucket : ℕ
   pub bucket_is : bucket_of n ≡ Some bucket
-  pub spent : HasSpentFirst bucket late.added
+  pub spent : HasSpentFirst old bucket late.added
 
 -- Under the lock of VS the front end does not try it where it gives a block,
 abbrev pub LeavesWithVs : Token → Token → WithVs → Type 0

@@ -62,6 +62,7 @@ fn check_slot(c: &Caller<State>)
 
 /// Searches an active bucket from its hint on, takes no lock for it, and gives the block that it finds with `n` bytes, whose words are 0
 /// then if that is asked. It reads the hint, at most the words of the one subsegment that it names, and no others.
+#[inline(always)]
 pub fn serve_by_hint(
     heap: &Heap<State>,
     c: &mut Caller<State>,
