@@ -111,9 +111,9 @@ def mode_of(words):
 
 
 def script_fault(text, mode='one'):
-    """The fault of a script, as the program finds it; in mode one last a thread or a command that one caller does not run."""
+    """The fault of a script, as the program finds it; in mode one last a thread that one caller does not run."""
     try:
-        read = script.read_script(text)
+        script.read_script(text)
     except script.Fault as fault:
         return fault
     if mode != 'one':
@@ -121,21 +121,7 @@ def script_fault(text, mode='one'):
     line = script.second_thread(text)
     if line:
         return script.Fault(line, 'notsingle', 'a second thread of a round, and mode one has one caller: leave out --mode one, or give each thread a round of its own')
-    for _, _, command in read.commands():
-        if not is_built(command):
-            return script.Fault(command.line, 'notbuilt', f'{why_not_built(command)}; tools/explain --rules tells what the rules of the heap give for it')
     return None
-
-
-BUILT = ('alloc', 'zalloc', 'realloc', 'inplace', 'free', 'size', 'get', 'put')
-
-
-def is_built(command):
-    return command.word in BUILT
-
-
-def why_not_built(command):
-    return f'"{command.word}" is a word of the language, and mode one does not run it yet'
 
 
 def tell(text):

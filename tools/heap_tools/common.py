@@ -79,7 +79,6 @@ CAUSES = {
     'threads': f'a round has more than {script.MOST_THREADS} threads',
     'walks': f'the text has more than {script.MOST_WALKS} "walk" lines',
     'notsingle': 'a second thread of a round, where only one caller runs',
-    'notbuilt': 'the program as it is built does not run this command yet',
 }
 
 

@@ -61,7 +61,7 @@ class Given:
 
     def why_refused(self, said):
         why = common.refused(said, self.text or b'')
-        if said.endswith(('notbuilt', 'notsingle')) and self.text is not None:
+        if said.endswith('notsingle') and self.text is not None:
             return why + '; --rules tells what the rules of the heap give for it, without the program'
         return why
 

@@ -91,11 +91,11 @@ class Program(unittest.TestCase):
         self.assertTrue(''.join(f'    {it}\n' for it in letters) in readme)
         self.assertTrue(ran('picture', 'examples/bucket.heap', '--svg', '-')[1] == open_text('docs/picture.svg'), 'tools/picture examples/bucket.heap --svg docs/picture.svg')
 
-    def test_not_built(self):
-        status, out, said = ran('explain', given='alloc a 5\ncompact\n')
+    def test_second_thread(self):
+        status, out, said = ran('explain', given='alloc a 5\nround\nthread\nthread\n')
         self.assertEqual((status, out), (1, ''))
-        self.assertIn('line 2 "compact"', said)
-        self.assertIn('does not run this command yet; --rules tells', said)
+        self.assertIn('a second thread of a round', said)
+        self.assertIn('; --rules tells', said)
 
     def test_statuses(self):
         """The texts on standard output and the statuses are the program's own; what helps a person is on standard error."""
@@ -105,7 +105,7 @@ class Program(unittest.TestCase):
             (['--mode', 'one', '--segment', '1'], '', 2, 'usage fault\n', ['did you mean --segments?']),
             (['--mode', 'one'], 'alloc a 5\n alocate x 3\n', 3, 'line 2 badline\n', ['line 2: alocate x 3', 'did you mean "alloc NAME SIZE"?']),
             (['--mode', 'one'], 'free\n', 3, 'line 1 badline\n', ['line 1: free', 'needs 1 field behind it and has 0']),
-            (['--mode', 'one'], 'walk\n', 3, 'line 1 notbuilt\n', ['line 1: walk', 'does not run it yet']),
+            (['--mode', 'one'], 'walk\n', 0, '0 0 walk notlocked\nblocks 0 bytes 0\n', []),
             (['--mode', 'one'], 'thread\nthread\n', 3, 'line 2 notsingle\n', ['one caller']),
             ([], 'thread\nthread\n', 0, 'blocks 0 bytes 0\n', []),
             (['--slots=1'], 'lock\nwalk\nunlock\n', 0, '0 0 lock ok\n0 0 walk end 0\n0 0 unlock ok\nblocks 0 bytes 0\n', []),

@@ -1,5 +1,5 @@
--- The commands of a script that is drawn are served.
-use Rattle.std.proofs.Common.{◌≡◌, ℕ, zero, suc, ◌==◌, Bool, true, false, List, [], ◌∷◌, ◌++◌, map, sym, subst, append-nil}
+-- The commands of a script that is drawn leave the heap lock alone.
+use Rattle.std.proofs.Common.{◌≡◌, ℕ, zero, suc, ◌==◌, Bool, true, false, List, [], ◌∷◌, ◌++◌, map, refl}
 use Rattle.std.specs.Prelude.{nat_lt, if◌then◌else◌}
 use Rattle.std.specs.List.{AllByRecursion}
 use Rattle.script_text.specs.declared.commands.Command.{Command}
@@ -8,13 +8,31 @@ use Rattle.script_text.specs.declared.commands.CommandLine.{CommandLine}
 use Rattle.script_text.specs.declared.commands.Target.TheVariants as targets
 use Rattle.script_text.specs.Generator.{name_draw, value_draw, size_of, on_held, command_on, is_held, name_of, choice_of, drawn, numbered, without_line, command_lines, names_drawn, generated}
 use Rattle.script_text.specs.Scripts.{command_of, commands_of}
-use Rattle.command_run.specs.Commands.{in_rounds}
-use Rattle.command_run.specs.Running.{IsServed, AreServed}
+use Rattle.script_laws.specs.Printable.{IsBalanced, AreBalanced}
+
+-- a command that neither takes the heap lock nor gives it back
+abbrev IsPlain : Command → Type 0
+IsPlain commands.Lock = ⊥
+IsPlain commands.Unlock = ⊥
+IsPlain _ = Unit {0}
+
+plain_balanced : (cs : List Command) → AllByRecursion IsPlain cs → IsBalanced 0 cs
+plain_balanced [] all = refl
+plain_balanced (commands.Alloc name n zeroed ∷ cs) all = plain_balanced cs all.1
+plain_balanced (commands.Realloc target n in_place ∷ cs) all = plain_balanced cs all.1
+plain_balanced (commands.Free target ∷ cs) all = plain_balanced cs all.1
+plain_balanced (commands.Size target ∷ cs) all = plain_balanced cs all.1
+plain_balanced (commands.Get target index ∷ cs) all = plain_balanced cs all.1
+plain_balanced (commands.Put target index value ∷ cs) all = plain_balanced cs all.1
+plain_balanced (commands.Lock ∷ cs) all = absurd all.0
+plain_balanced (commands.Unlock ∷ cs) all = absurd all.0
+plain_balanced (commands.Walk ∷ cs) all = plain_balanced cs all.1
+plain_balanced (commands.Compact ∷ cs) all = plain_balanced cs all.1
 
 module _ (names : List (List ℕ)) where
-  -- a command is served, whatever number its name has
+  -- a command is plain, whatever number its name has
   abbrev IsRun : Command → Type 0
-  IsRun c = IsServed (numbered names c)
+  IsRun c = IsPlain (numbered names c)
 
   chosen : (name b : ℕ) (frees moves : Bool)
       → IsRun (if frees then commands.Free (targets.Name name) else if moves then commands.Realloc (targets.Name name) (size_of b) false else commands.Put (targets.Name name) 0 b)
@@ -43,12 +61,11 @@ mapped : {A B : Type 0} (P : B → Type 0) (f : A → B) (xs : List A) → AllBy
 mapped P f [] all = tt
 mapped P f (x ∷ xs) all = (all.0, mapped P f xs all.1)
 
-pub drawn_served : (count seed : ℕ) → AreServed (in_rounds (commands_of (generated count seed)))
+pub drawn_balanced : (count seed : ℕ) → AllByRecursion AreBalanced (commands_of (generated count seed))
 unfolding generated
-drawn_served count seed =
+drawn_balanced count seed =
     let names = names_drawn seed count in
     let lines = command_lines names (drawn seed count) in
-    let commands : List Command = map command_of lines in
-    let all : AreServed commands =
-    mapped IsServed command_of lines (mapped (λ (l : CommandLine). IsServed (command_of l)) (λ c. without_line (numbered names c)) (drawn seed count) (all_run names seed count)) in
-    subst AreServed (sym (append-nil (commands ++ []))) (subst AreServed (sym (append-nil commands)) all)
+    let all : AllByRecursion IsPlain (map command_of lines) =
+    mapped IsPlain command_of lines (mapped (λ (l : CommandLine). IsPlain (command_of l)) (λ c. without_line (numbered names c)) (drawn seed count) (all_run names seed count)) in
+    ((plain_balanced (map command_of lines) all, tt), tt)

@@ -2,10 +2,11 @@
 use Rattle.std.proofs.Common.{◌≡◌, ℕ, zero, suc, ◌+◌, ◌<◌, List, [], ◌∷◌, ◌++◌, length, take, map, get_or, refl, sym, ap, ◌∙◌, arith, append_assoc, append-nil}
 use Rattle.heap_model.specs.declared.Reply.{Reply}
 use Rattle.script_text.specs.declared.commands.Command.{Command}
+use Rattle.thread_commands.specs.Working.{Fills}
 use Rattle.command_run.specs.Commands.{in_threads, in_rounds}
 use Rattle.command_run.specs.Running.{FitThreads, Fit}
 
-pub fit_thread : (threads : List (List Command)) (answers : List (List Reply)) (cs : List Command) (rs : List Reply) → FitThreads threads answers → length rs ≡ length cs → FitThreads (threads ++ cs ∷ []) (answers ++ rs ∷ [])
+pub fit_thread : (threads : List (List Command)) (answers : List (List Reply)) (cs : List Command) (rs : List Reply) → FitThreads threads answers → Fills cs rs → FitThreads (threads ++ cs ∷ []) (answers ++ rs ∷ [])
 fit_thread [] [] cs rs h e = (e, tt)
 fit_thread [] (a ∷ bs) cs rs h e = absurd h
 fit_thread (t ∷ ts) [] cs rs h e = absurd h

@@ -9,11 +9,15 @@ use Rattle.script_text.specs.declared.commands.Target.TheVariants as targets
 use Rattle.script_text.specs.declared.commands.Command.{Command}
 use Rattle.script_text.specs.declared.commands.Command.TheVariants as commands
 use Rattle.script_text.specs.Values as language
-use Rattle.script_text.specs.Values.{last_assigned, last_of_round, last_of_rounds}
+use Rattle.script_text.specs.Values.{Answered, last_assigned, last_of_round, last_of_rounds}
+use Rattle.name_values.proofs.Tables.{later_first, last_assigned-append}
+use Rattle.thread_commands.specs.Working.{Fills}
+use Rattle.thread_commands.proofs.Threads.{fills_on, answered_on}
+use Rattle.thread_rounds.specs.Rounds.{answered_threads}
+use Rattle.thread_rounds.specs.Threads.{answered}
 use Rattle.command_run.specs.Commands.{unassigned, assigned, values_after, in_threads, in_rounds}
 use Rattle.command_run.specs.Running.{FitThreads, Fit}
-use Rattle.command_run.specs.Named.{answered, answered_threads, answered_rounds, AreSingle, NamesHaveTheirValues}
-use Rattle.command_run.proofs.RunLemmas.{length_append}
+use Rattle.command_run.specs.Named.{answered_rounds, AreSingle, NamesHaveTheirValues}
 
 same_way : (a b : ℕ) → (a == b) ≡ (b == a)
 same_way a b = go (a == b) (b == a) refl refl
@@ -75,41 +79,22 @@ one_command v commands.Unlock r name = refl
 one_command v commands.Walk r name = refl
 one_command v commands.Compact r name = refl
 
-later_first : (a b : Option ℕ) (old : ℕ) → unwrap_or a (unwrap_or b old) ≡ unwrap_or (option_or a b) old
-later_first None b old = refl
-later_first (Some x) b old = refl
-
-or_none : (a : Option ℕ) → option_or a None ≡ a
-or_none None = refl
-or_none (Some x) = refl
-
-or_all : (a b c : Option ℕ) → option_or (option_or a b) c ≡ option_or a (option_or b c)
-or_all None b c = refl
-or_all (Some x) b c = refl
-
 -- what commands leave: the last assignment, or the value before
-after : (v : ℕ → ℕ) (cs : List Command) (rs : List Reply) (name : ℕ) → values_after v cs rs name ≡ unwrap_or (last_assigned (answered cs rs) name) (v name)
-after v [] rs name = refl
-after v (c ∷ cs) [] name = refl
-after v (c ∷ cs) (r ∷ rs) name =
-    after (assigned v c r) cs rs name
-    ∙ ap (unwrap_or (last_assigned (answered cs rs) name)) (one_command v c r name)
-    ∙ later_first (last_assigned (answered cs rs) name) (language.assigned c r name) (v name)
+after : (v : ℕ → ℕ) (ks : List Answered) (name : ℕ) → values_after v ks name ≡ unwrap_or (last_assigned ks name) (v name)
+after v [] name = refl
+after v (k ∷ ks) name =
+    after (assigned v k.command k.reply) ks name
+    ∙ ap (unwrap_or (last_assigned ks name)) (one_command v k.command k.reply name)
+    ∙ later_first (last_assigned ks name) (language.assigned k.command k.reply name) (v name)
 
--- the last assignment in commands and in more behind them
-last_append : (cs ds : List Command) (rs qs : List Reply) (name : ℕ) → length rs ≡ length cs →
+last_append : (cs ds : List Command) (rs qs : List Reply) (name : ℕ) → Fills cs rs →
     last_assigned (answered (cs ++ ds) (rs ++ qs)) name ≡ option_or (last_assigned (answered ds qs) name) (last_assigned (answered cs rs) name)
-last_append [] ds [] qs name e = sym (or_none (last_assigned (answered ds qs) name))
-last_append [] ds (r ∷ rs) qs name e = absurd (omega arith)
-last_append (c ∷ cs) ds [] qs name e = absurd (omega arith)
-last_append (c ∷ cs) ds (r ∷ rs) qs name e =
-    ap (λ (x : Option ℕ). option_or x (language.assigned c r name)) (last_append cs ds rs qs name (omega arith))
-    ∙ or_all (last_assigned (answered ds qs) name) (last_assigned (answered cs rs) name) (language.assigned c r name)
+last_append cs ds rs qs name f = ap (λ (ks : List Answered). last_assigned ks name) (answered_on cs ds rs qs f) ∙ last_assigned-append (answered cs rs) (answered ds qs) name
 
 -- in a round of one thread, or of none
 in_round : (threads : List (List Command)) (answers : List (List Reply)) (name : ℕ) → length threads ≤ 1 → FitThreads threads answers →
-    (length (in_threads answers) ≡ length (in_threads threads)) × (last_of_round (answered_threads threads answers) name ≡ last_assigned (answered (in_threads threads) (in_threads answers)) name)
-in_round [] [] name l f = (refl, refl)
+    Fills (in_threads threads) (in_threads answers) × (last_of_round (answered_threads threads answers) name ≡ last_assigned (answered (in_threads threads) (in_threads answers)) name)
+in_round [] [] name l f = (tt, refl)
 in_round [] (a ∷ others) name l f = absurd f
 in_round (t ∷ ts) [] name l f = absurd f
 in_round (t ∷ u ∷ ts) (a ∷ others) name l f = absurd (omega arith)
@@ -117,17 +102,15 @@ in_round (t ∷ []) (a ∷ b ∷ others) name l f = absurd f.1
 in_round (t ∷ []) (a ∷ []) name l f = rw (append-nil t, append-nil a) (f.0, refl)
 
 in_all : (rounds : List (List (List Command))) (answers : List (List (List Reply))) (name : ℕ) → AreSingle rounds → Fit rounds answers →
-    (length (in_rounds answers) ≡ length (in_rounds rounds)) × (last_of_rounds (answered_rounds rounds answers) name ≡ last_assigned (answered (in_rounds rounds) (in_rounds answers)) name)
-in_all [] [] name s f = (refl, refl)
+    Fills (in_rounds rounds) (in_rounds answers) × (last_of_rounds (answered_rounds rounds answers) name ≡ last_assigned (answered (in_rounds rounds) (in_rounds answers)) name)
+in_all [] [] name s f = (tt, refl)
 in_all [] (a ∷ others) name s f = absurd f
 in_all (t ∷ ts) [] name s f = absurd f
 in_all (t ∷ ts) (a ∷ others) name s f =
     let one = in_round t a name s.0 f.0 in
     let rest = in_all ts others name s.1 f.1 in
-    let more = last_append (in_threads t) (in_rounds ts) (in_threads a) (in_rounds others) name one.0 in
-    let x = length_append (in_threads a) (in_rounds others) in
-    let y = length_append (in_threads t) (in_rounds ts) in (
-      (let p = one.0 in let q = rest.0 in omega arith),
+    let more = last_append (in_threads t) (in_rounds ts) (in_threads a) (in_rounds others) name one.0 in (
+      fills_on (in_threads t) (in_rounds ts) (in_threads a) (in_rounds others) one.0 rest.0,
       ap (λ (z : Option ℕ). option_or z (last_of_round (answered_threads t a) name)) rest.1
           ∙ ap (option_or (last_assigned (answered (in_rounds ts) (in_rounds others)) name)) one.1
           ∙ sym more,
@@ -136,6 +119,6 @@ in_all (t ∷ ts) (a ∷ others) name s f =
 pub valued : NamesHaveTheirValues
 valued rounds answers own rs name s f e =
     let all = in_all rounds answers name s f in
-    after unassigned (in_rounds rounds ++ own) (in_rounds answers ++ rs) name
+    after unassigned (answered (in_rounds rounds ++ own) (in_rounds answers ++ rs)) name
     ∙ ap (λ (x : Option ℕ). unwrap_or x 0) (last_append (in_rounds rounds) own (in_rounds answers) rs name all.0)
     ∙ ap (λ (x : Option ℕ). unwrap_or (option_or (last_assigned (answered own rs) name) x) 0) (sym all.1)

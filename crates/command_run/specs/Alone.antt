@@ -12,6 +12,7 @@ use Rattle.script_text.specs.ThreadLines.{ScriptLines}
 use Rattle.report_text.specs.Image.{ranges_of}
 use Rattle.report_text.specs.Report.{report_of}
 use Rattle.report_text.specs.Summary.{summary_of}
+use Rattle.thread_rounds.specs.Threads.{answered}
 use Rattle.command_words.specs.declared.setting.Setting.{Setting}
 use Rattle.command_words.specs.Settings.{limits_of}
 use Rattle.command_run.specs.declared.serving.Outcome.{Outcome}
@@ -23,7 +24,7 @@ pub record ServedAlone (limits : Limits) (seed : ℕ) (script : ScriptLines) : T
   pub answers : List (List (List Reply))
   pub state : State
   pub fit : Fit (commands_of script) answers
-  pub serial : IsSerial limits seed (calls_of unassigned (in_rounds (commands_of script)) (in_rounds answers)) (in_rounds answers) state
+  pub serial : IsSerial limits seed (calls_of unassigned (answered (in_rounds (commands_of script)) (in_rounds answers))) (in_rounds answers) state
 
 -- It ends in these replies, and in an image of the state.
 pub record IsOutcome (limits : Limits) (seed : ℕ) (script : ScriptLines) (outcome : Outcome) : Type 0 where

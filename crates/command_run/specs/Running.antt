@@ -1,42 +1,46 @@
 -- Commands run one after another on a heap of one caller.
-use Rattle.std.specs.Prelude.{◌≡◌, ℕ, List, [], ◌∷◌, ◌++◌, length}
-use Rattle.std.specs.List.{AllByRecursion}
+use Rattle.std.specs.Prelude.{◌≡◌, ℕ, List, [], ◌∷◌, ◌++◌}
 use Rattle.heap_model.specs.declared.Act.{Act}
+use Rattle.heap_model.specs.declared.Call.{Call}
 use Rattle.heap_model.specs.declared.Reply.{Reply}
-use Rattle.heap_model.specs.Moments.{moments_by}
-use Rattle.heap_model.specs.Served.{GetsReply, AreServed as AreAnswered}
+use Rattle.heap_model.specs.Moments.{Moment, moments_by}
+use Rattle.heap_model.specs.Served.{GetsReply, IsServed, by_depth, depth_after}
 use Rattle.script_text.specs.declared.commands.Command.{Command}
-use Rattle.script_text.specs.declared.commands.Command.TheVariants as commands
+use Rattle.thread_calls.specs.Serving.{EndsOnce}
+use Rattle.thread_commands.specs.Working.{Fills}
+use Rattle.thread_rounds.specs.Threads.{answered}
 use Rattle.one_heap.specs.Lone.{LoneHeap, setting_of, behind}
 use Rattle.command_run.specs.Commands.{calls_of, values_after, in_threads}
 
--- a command that the program runs
-abbrev pub IsServed : Command → Type 0
-IsServed (commands.Alloc name n zero) = Unit {0}
-IsServed (commands.Realloc target n in_place) = Unit {0}
-IsServed (commands.Free target) = Unit {0}
-IsServed (commands.Size target) = Unit {0}
-IsServed (commands.Get target index) = Unit {0}
-IsServed (commands.Put target index value) = Unit {0}
-IsServed _ = ⊥
+-- All that is asked, one behind the other, as one says how a call gets its reply, and how often the caller has the heap lock behind it.
+abbrev pub AreServedTo : (Call → Reply → List Moment → Type 0) → ℕ → List Call → List Reply → List Moment → ℕ → Type 0
+AreServedTo One depth [] rs xs end = (rs ≡ []) × (xs ≡ []) × (end ≡ depth)
+AreServedTo One depth (call ∷ calls) rs xs end =
+    (its : List Reply) × (others : List Reply) × (made : List Moment) × (later : List Moment)
+    × (rs ≡ its ++ others) × (xs ≡ made ++ later)
+    × IsServed One (by_depth depth call) call its made
+    × AreServedTo One (depth_after depth call its) calls others later end
 
-abbrev pub AreServed : List Command → Type 0
-AreServed cs = AllByRecursion IsServed cs
-
--- The caller of the old heap has done more: its acts are the calls of these commands, one after another, which got these replies. None of the
--- calls asks how often the heap lock was taken.
+-- The caller of the old heap has done more: its acts are the calls of these commands, one after another, which got these replies.
 pub record Runs (old new : LoneHeap) (values later : ℕ → ℕ) (cs : List Command) (rs : List Reply) : Type 0 where
   pub added : List Act
   pub opening : new.opening ≡ old.opening
   pub acts : new.acts ≡ old.acts ++ added
-  pub answered : (depth : ℕ) → AreAnswered (GetsReply (setting_of old) 0) depth (calls_of values cs rs) rs (moments_by (setting_of old) (behind old) added)
-  pub values_are : later ≡ values_after values cs rs
-  pub each : length rs ≡ length cs
+  pub fills : Fills cs rs
+  pub served : AreServedTo (GetsReply (setting_of old) 0) old.depth (calls_of values (answered cs rs)) rs (moments_by (setting_of old) (behind old) added) new.depth
+  pub values_are : later ≡ values_after values (answered cs rs)
 
--- answers of the rounds and threads of a script, one for each command
+-- One command was run, and its replies stand behind those before it.
+pub record RunsOne (old new : LoneHeap) (values later : ℕ → ℕ) (command : Command) (before replies : List Reply) : Type 0 where
+  pub its : List Reply
+  pub added : replies ≡ before ++ its
+  pub ends : EndsOnce its
+  pub runs : Runs old new values later (command ∷ []) its
+
+-- answers of the rounds and threads of a script: in each thread those of its commands
 abbrev pub FitThreads : List (List Command) → List (List Reply) → Type 0
 FitThreads [] [] = Unit {0}
-FitThreads (cs ∷ threads) (rs ∷ answers) = (length rs ≡ length cs) × FitThreads threads answers
+FitThreads (cs ∷ threads) (rs ∷ answers) = Fills cs rs × FitThreads threads answers
 FitThreads threads answers = ⊥
 
 abbrev pub Fit : List (List (List Command)) → List (List (List Reply)) → Type 0

@@ -1,12 +1,13 @@
 // What is due for words and for the bytes of the source.
-ghost use Rattle.std.specs.Prelude.{◌≡◌, IfOk, OnErr, Some, None, map, string_bytes};
-ghost use Rattle.std.specs.Option.{option_map};
+ghost use Rattle.std.specs.Prelude.{◌≡◌, IfOk, OnErr, map, string_bytes};
+ghost use Rattle.std.specs.List.{AllByRecursion};
 ghost use Rattle.outside_io.specs.Faults.{Stands};
-ghost use Rattle.script_text.specs.Unbuilt.{first_unbuilt};
+ghost use Rattle.script_text.specs.Scripts.{commands_of};
+ghost use Rattle.script_laws.specs.Printable.{AreBalanced};
 ghost use Rattle.command_words.specs.Settings.{limits_of};
 ghost use Rattle.command_run.specs.Words.{IsAlone, AreForOne};
 ghost use Rattle.run_ending.specs.Ending.{ReadsFew};
-ghost use Rattle.command_run.specs.Due.{unfit, not_built, IsDue, IsDueBy, IsDueIn, IsDueRead};
+ghost use Rattle.command_run.specs.Due.{unfit, IsDue, IsDueBy, IsDueIn, IsDueRead};
 
 use crate::serving::{report_for, summary_for};
 use crate::words::setting_alone;
@@ -14,7 +15,7 @@ use command_words::{Mode, Setting};
 use heap_model::OutOfMemory;
 use outside_io::Source;
 use run_ending::{Due, Given, read_given};
-use script_text::{Cause, Script, ScriptFault};
+use script_text::{Script, ScriptFault};
 use std::alloc::Global;
 
 /// What is due for these words and the bytes of the source.
@@ -65,6 +66,7 @@ fn due_read<S: Source>(alloc: Global, setting: &Setting, source: &mut S) -> Resu
 /// What is due for a script.
 fn due_in(alloc: Global, setting: &Setting, script: &Script) -> Result<Due, OutOfMemory>
     requires one { AreForOne (limits_of setting.now) }
+    requires balanced { AllByRecursion AreBalanced (commands_of script.now) }
     ensures { IfOk result (IsDueIn setting.now script.now) }
 {
     match why_unfit(script) {
@@ -73,24 +75,12 @@ fn due_in(alloc: Global, setting: &Setting, script: &Script) -> Result<Due, OutO
     }
 }
 
-/// Why a script is not run: a second thread in a round, or else a command that is not built.
+/// Why a script is not run: a second thread in a round.
 fn why_unfit(script: &Script) -> Option<ScriptFault>
     ensures { result ≡ unfit script.now }
 {
     match script.single() {
-        Ok(()) => first_not_built(script),
+        Ok(()) => None,
         Err(fault) => Some(fault),
-    }
-}
-
-fn first_not_built(script: &Script) -> Option<ScriptFault>
-    ensures { result ≡ option_map not_built (first_unbuilt script.now.rounds) }
-{
-    match script.first_unbuilt() {
-        Some(line) => {
-            let cause = Cause::NotBuilt;
-            Some(ScriptFault { line, cause })
-        }
-        None => None,
     }
 }

@@ -1,11 +1,16 @@
 // The commands of a script, run one after another on a heap of one caller.
-ghost use Rattle.std.specs.Prelude.{◌≡◌, ◌<◌, [], ◌∷◌, ◌++◌, IfOk, length, false, List, ℕ};
+ghost use Rattle.std.specs.Prelude.{◌≡◌, ◌≢◌, ◌<◌, [], ◌∷◌, ◌++◌, IfOk, OnOk, length, map, false, List, ℕ};
+ghost use Rattle.std.specs.List.{AllByRecursion};
 ghost use Rattle.heap_model.specs.declared.Call.TheVariants as calls;
 ghost use Rattle.heap_model.specs.declared.Reply.{Reply};
-ghost use Rattle.script_text.specs.Scripts.{commands_of, round_at};
+ghost use Rattle.script_laws.specs.Printable.{IsBalanced, AreBalanced};
+ghost use Rattle.script_text.specs.Calls.{address_of, call_of};
+ghost use Rattle.script_text.specs.Scripts.{command_of, commands_of, round_at};
+ghost use Rattle.script_text.specs.declared.commands.Command.TheVariants as commands;
+ghost use Rattle.thread_calls.specs.Serving.{IsDepthBehind};
 ghost use Rattle.command_run.specs.Values.{value_at};
-ghost use Rattle.command_run.specs.Commands.{unassigned, address_of, call_of, assigned, assigned_placed, assigned_moved, in_threads, in_rounds, round_commands, thread_commands};
-ghost use Rattle.command_run.specs.Running.{IsServed, AreServed, Runs, RoundRuns, Fit};
+ghost use Rattle.command_run.specs.Commands.{unassigned, assigned, assigned_placed, assigned_moved, in_rounds, round_commands};
+ghost use Rattle.command_run.specs.Running.{Runs, RunsOne, RoundRuns, Fit};
 
 use crate::values::Values;
 use heap_model::{Call, Flags, OutOfMemory, Reply};
@@ -20,7 +25,9 @@ pub fn run_rounds(
     heap: &mut OneHeap,
     script: &Script,
 ) -> Result<Answers, OutOfMemory>
-    requires { AreServed (in_rounds (commands_of script.now)) }
+    requires free { heap.old.depth ≡ 0 }
+    requires balanced { AllByRecursion AreBalanced (commands_of script.now) }
+    ensures free { OnOk result (heap.new.depth ≡ 0) }
     ensures fit { IfOk result (λ answers. Fit (commands_of script.now) answers) }
     ensures runs { IfOk result (λ answers. (later : List ℕ)
         × Runs heap.old heap.new unassigned (value_at later) (in_rounds (commands_of script.now)) (in_rounds answers)) }
@@ -43,10 +50,12 @@ fn run_threads(
     round: u32,
     answers: &mut Answers,
 ) -> Result<(), OutOfMemory>
+    requires free { heap.old.depth ≡ 0 }
     requires round { round < length script.now.rounds }
-    requires served { AreServed (in_threads (round_commands (round_at script.now round))) }
+    requires balanced { AreBalanced (round_commands (round_at script.now round)) }
     requires empty { (front : List (List (List Reply))) × (answers.old ≡ front ++ [] ∷ []) }
-    ensures { IfOk result (λ _. (front : List (List (List Reply))) → answers.old ≡ front ++ [] ∷ []
+    ensures free { OnOk result (heap.new.depth ≡ 0) }
+    ensures runs { IfOk result (λ _. (front : List (List (List Reply))) → answers.old ≡ front ++ [] ∷ []
         → RoundRuns front answers.new heap.old heap.new (value_at values.old) (value_at values.new) (round_commands (round_at script.now round))) }
 {
     for thread in 0..script.threads(round) {
@@ -63,31 +72,59 @@ fn run_thread(
     values: &mut Values,
     commands: &[CommandLine],
 ) -> Result<Vec<Reply>, AllocError>
-    requires { AreServed (thread_commands commands.now) }
-    ensures each { IfOk result (λ replies. length replies.items ≡ length (thread_commands commands.now)) }
-    ensures runs { IfOk result (λ replies. Runs heap.old heap.new (value_at values.old) (value_at values.new) (thread_commands commands.now) replies.items) }
+    requires free { heap.old.depth ≡ 0 }
+    requires balanced { IsBalanced 0 (map command_of commands.now) }
+    ensures free { OnOk result (heap.new.depth ≡ 0) }
+    ensures runs { IfOk result (λ replies. Runs heap.old heap.new (value_at values.old) (value_at values.new) (map command_of commands.now) replies.items) }
 {
     let mut replies = Vec::new(alloc);
     for line in commands {
-        let reply = run_command(heap, values, line.command)?;
-        replies.push(reply)?;
+        run_command(heap, values, line.command, &mut replies)?;
     }
     Ok(replies)
 }
 
-/// The reply to a command, whose name then has the value that it assigns.
+/// Runs a command: its replies come behind those before it, and its name then has the value that it assigns.
 fn run_command(
     heap: &mut OneHeap,
     values: &mut Values,
     command: Command,
-) -> Result<Reply, AllocError>
-    requires { IsServed command }
-    ensures { IfOk result (λ reply. Runs heap.old heap.new (value_at values.old) (value_at values.new) (command ∷ []) (reply ∷ [])) }
+    replies: &mut Vec<Reply>,
+) -> Result<(), AllocError>
+    ensures depth { OnOk result (IsDepthBehind (call_of (value_at values.old) command) heap.old.depth heap.new.depth) }
+    ensures runs { OnOk result (RunsOne heap.old heap.new (value_at values.old) (value_at values.new) command replies.old.items replies.new.items) }
+{
+    match command {
+        Command::Walk => run_walk(heap, values, replies),
+        _ => run_call(heap, values, command, replies),
+    }
+}
+
+/// .. a walk,
+fn run_walk(heap: &mut OneHeap, values: &Values, replies: &mut Vec<Reply>) -> Result<(), AllocError>
+    ensures depth { OnOk result (heap.new.depth ≡ heap.old.depth) }
+    ensures runs { OnOk result (RunsOne heap.old heap.new (value_at values.now) (value_at values.now) commands.Walk replies.old.items replies.new.items) }
+{
+    heap.walk(replies)?;
+    Ok(())
+}
+
+/// .. or one whose call is one call of the heap, or none.
+fn run_call(
+    heap: &mut OneHeap,
+    values: &mut Values,
+    command: Command,
+    replies: &mut Vec<Reply>,
+) -> Result<(), AllocError>
+    requires { command ≢ commands.Walk }
+    ensures depth { OnOk result (IsDepthBehind (call_of (value_at values.old) command) heap.old.depth heap.new.depth) }
+    ensures runs { OnOk result (RunsOne heap.old heap.new (value_at values.old) (value_at values.new) command replies.old.items replies.new.items) }
 {
     let call = call_for(values, command);
     let reply = heap.serve(&call);
+    replies.push(reply)?;
     note(values, command, reply)?;
-    Ok(reply)
+    Ok(())
 }
 
 fn address_for(values: &Values, target: Target) -> u64

@@ -1,13 +1,12 @@
 // Scripts that are run on a new heap of one caller, and what is written of them.
-ghost use Rattle.std.specs.Prelude.{◌≡◌, IfOk, None};
+ghost use Rattle.std.specs.Prelude.{IfOk};
+ghost use Rattle.std.specs.List.{AllByRecursion};
 ghost use Rattle.script_text.specs.Scripts.{commands_of};
+ghost use Rattle.script_laws.specs.Printable.{AreBalanced};
 ghost use Rattle.report_text.specs.Text.{bytes_of};
 ghost use Rattle.command_words.specs.Settings.{limits_of};
 ghost use Rattle.command_run.specs.Words.{AreForOne};
-ghost use Rattle.command_run.specs.Commands.{in_rounds};
-ghost use Rattle.command_run.specs.Running.{AreServed};
 ghost use Rattle.command_run.specs.Alone.{IsOutcome, IsReportOf, IsDrawn};
-ghost use Rattle.command_run.specs.Due.{unfit};
 
 use crate::running::run_rounds;
 use command_words::Setting;
@@ -28,7 +27,7 @@ pub struct Outcome {
 /// The report of a script.
 pub fn report_for(alloc: Global, setting: &Setting, script: &Script) -> Result<Text, OutOfMemory>
     requires one { AreForOne (limits_of setting.now) }
-    requires fit { unfit script.now ≡ None }
+    requires balanced { AllByRecursion AreBalanced (commands_of script.now) }
     ensures { IfOk result (λ text. IsReportOf setting.now script.now (bytes_of text)) }
 {
     let outcome = serve_script(alloc, setting.limits(), setting.seed, script)?;
@@ -53,7 +52,7 @@ fn serve_script(
     script: &Script,
 ) -> Result<Outcome, OutOfMemory>
     requires one { AreForOne limits }
-    requires served { AreServed (in_rounds (commands_of script.now)) }
+    requires balanced { AllByRecursion AreBalanced (commands_of script.now) }
     ensures { IfOk result (IsOutcome limits seed script.now) }
 {
     let mut heap = OneHeap::open(alloc, limits, seed)?;

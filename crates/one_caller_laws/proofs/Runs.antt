@@ -27,14 +27,14 @@ use Rattle.one_caller_laws.specs.Asked.{Script, IsScripted, Runs, AsksOnly, Each
 ---- A call at the front of acts
 
 -- the moments of the first of these acts, and of the others
-record Parts (s : Setting) (m : Configuration) (rest : List Act) (made later : List Moment) : Type 0 where
+pub record Parts (s : Setting) (m : Configuration) (rest : List Act) (made later : List Moment) : Type 0 where
   pub first : List Act
   pub last : List Act
   pub is : rest ≡ first ++ last
   pub made_is : made ≡ moments_by s m first
   pub later_is : later ≡ moments_by s (configuration_by s m first) last
 
-parts : (s : Setting) (m : Configuration) (rest : List Act) (made later : List Moment) → moments_by s m rest ≡ made ++ later → Parts s m rest made later
+pub parts : (s : Setting) (m : Configuration) (rest : List Act) (made later : List Moment) → moments_by s m rest ≡ made ++ later → Parts s m rest made later
 parts s m rest [] later h = record { first = []; last = rest; is = refl; made_is = refl; later_is = sym h }
 parts s m [] (x ∷ made) later h = absurd (let z : ⊥ = cc in z)
 parts s m (act ∷ rest) (x ∷ made) later h =
@@ -49,7 +49,7 @@ parts s m (act ∷ rest) (x ∷ made) later h =
       later_is = p.later_is;
     }
 
-come_parts : (s : Setting) (m : Configuration) (xs ys : List Act) → may_all_come s m (xs ++ ys) ≡ true → (may_all_come s m xs ≡ true) × (may_all_come s (configuration_by s m xs) ys ≡ true)
+pub come_parts : (s : Setting) (m : Configuration) (xs ys : List Act) → may_all_come s m (xs ++ ys) ≡ true → (may_all_come s m xs ≡ true) × (may_all_come s (configuration_by s m xs) ys ≡ true)
 come_parts s m [] ys h = (refl, h)
 come_parts s m (act ∷ xs) ys h =
     let p = and_parts (may_follow s m (by_zero act)) (may_all_come s (after s m (by_zero act)) (xs ++ ys)) h in

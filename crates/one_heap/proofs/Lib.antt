@@ -1,4 +1,5 @@
 mod Only
 mod Unblocked
 mod Serving
+mod Locks
 mod Ending

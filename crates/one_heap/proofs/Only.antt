@@ -1,5 +1,5 @@
 -- Where a heap has room for one caller, nobody else has an entry.
-use Rattle.std.proofs.Common.{◌≡◌, ℕ, ◌<◌, true, false, ◌==◌, ◌&&◌, ◌||◌, List, [], ◌∷◌, ◌++◌, map, Option, Some, None, refl, sym, ap, subst, ◌∙◌, arith, inl, inr, ne_eqb, eq-eqb}
+use Rattle.std.proofs.Common.{◌≡◌, ℕ, ◌<◌, Bool, true, false, ◌==◌, ◌&&◌, ◌||◌, List, [], ◌∷◌, ◌++◌, map, Option, Some, None, refl, sym, ap, subst, ◌∙◌, arith, inl, inr, ne_eqb, eq-eqb}
 use Rattle.std.specs.Prelude.{nat_lt, is_some}
 use Rattle.std.proofs.lemmas.Bool.{cases_Bool, true≢false, and_parts, and_from, eqb-true, eqb-false, ltb-true}
 use Rattle.heap_model.specs.declared.Act.{Act}
@@ -7,22 +7,24 @@ use Rattle.heap_model.specs.declared.Act.TheVariants as acts
 use Rattle.heap_model.specs.declared.Entry.{Entry}
 use Rattle.heap_model.specs.declared.What.{What}
 use Rattle.heap_model.specs.declared.What.TheVariants as whats
-use Rattle.heap_model.specs.State.{Setting, Locks, is_another, holder_of, put_holder, hands}
-use Rattle.heap_model.specs.CallState.{Configuration, caller_view, is_outside, holds_none}
-use Rattle.heap_model.specs.Legal.{may, may_follow, after, is_begin, is_empty, meets_demand}
+use Rattle.heap_model.specs.State.{Setting, GateAndLocks, Locks, is_another, is_among, without, holder_of, put_holder, hands}
+use Rattle.heap_model.specs.CallState.{Configuration, CallState, caller_view, is_outside, holds_none}
+use Rattle.heap_model.specs.Legal.{may, may_follow, after, is_begin, is_empty, meets_demand, gate_blocked, is_lock_or_compact}
 use Rattle.heap_model.specs.History.{configuration_after, may_all_follow, first_configuration}
 use Rattle.heap_model.specs.Alone.{by_zero}
+use Rattle.heap_model.specs.Stay.{for_some}
 use Rattle.claim_rule.specs.Entries.{is_by, entry}
 use Rattle.one_heap.specs.Lone.{act_of}
 
--- Nobody but caller 0 has a call, owns the heap lock or holds the lock of a layer.
+-- Nobody but caller 0 has a call, is counted by the gate, owns the heap lock or holds the lock of a layer.
 pub record IsOnly (m : Configuration) : Type 0 where
   pub calls : (n : ℕ) → (n ≡ 0 → ⊥) → (m.now.calls n).call ≡ None
+  pub counted : (n : ℕ) → (n ≡ 0 → ⊥) → is_among n m.state.gate.counted ≡ false
   pub owner : is_another 0 m.state.gate.owner ≡ false
   pub locks : (w : What) → is_another 0 (holder_of m.state.gate.locks w) ≡ false
 
 pub first_only : IsOnly first_configuration
-first_only = record { calls = λ n ne. refl; owner = refl; locks = none }
+first_only = record { calls = λ n ne. refl; counted = λ n ne. refl; owner = refl; locks = none }
   where
     none : (w : What) → is_another 0 (holder_of first_configuration.state.gate.locks w) ≡ false
     none whats.Gate = refl
@@ -83,7 +85,40 @@ put_only k o whats.Large whats.Lfh n h = h whats.Lfh
 put_only k o whats.Large whats.Vs n h = h whats.Vs
 put_only k o whats.Large whats.Back n h = h whats.Back
 
+-- nobody else is counted where caller 0 is counted once more, or no longer
+zero_more : (n : ℕ) (cs : List ℕ) → (n ≡ 0 → ⊥) → is_among n cs ≡ false → is_among n (0 ∷ cs) ≡ false
+zero_more n cs ne h = let z : (0 == n) ≡ false = ne_eqb 0 n (λ e. ne (sym e)) in rw z h
+
+zero_less : (n : ℕ) (cs : List ℕ) → is_among n cs ≡ false → is_among n (without 0 cs) ≡ false
+zero_less n [] h = refl
+zero_less n (c ∷ cs) h = elim (cases_Bool (c == n)) [
+  | inl z ↦ absurd (true≢false (sym (ap (λ (b : Bool). b || is_among n cs) z) ∙ h))
+  | inr z ↦
+      let rest : is_among n cs ≡ false = sym (ap (λ (b : Bool). b || is_among n cs) z) ∙ h in
+      let less = zero_less n cs rest in
+      elim (cases_Bool (c == 0)) [
+        | inl y ↦ rw y less
+        | inr y ↦ rw (y, z) less
+      ]
+]
+
+blocked_more : (n : ℕ) (f : GateAndLocks) (k : CallState) → (n ≡ 0 → ⊥) → is_among n f.counted ≡ false → is_among n (gate_blocked f 0 k).counted ≡ false
+blocked_more n f k ne h = elim (cases_Bool (for_some k.call is_lock_or_compact)) [
+  | inl z ↦ rw z h
+  | inr z ↦ let more = zero_more n f.counted ne h in rw z more
+]
+
 module _ (s : Setting) (m : Configuration) (only : IsOnly m) where
+  counted_only : (act : Act) (n : ℕ) → (n ≡ 0 → ⊥) → is_among n (after s m (by_zero act)).state.gate.counted ≡ false
+  counted_only acts.Enter n ne = zero_more n m.state.gate.counted ne (only.counted n ne)
+  counted_only acts.Leave n ne = zero_less n m.state.gate.counted (only.counted n ne)
+  counted_only (acts.Blocked whats.Gate word) n ne = blocked_more n m.state.gate (m.now.calls 0) ne (only.counted n ne)
+  counted_only (acts.Blocked whats.Lfh word) n ne = only.counted n ne
+  counted_only (acts.Blocked whats.Vs word) n ne = only.counted n ne
+  counted_only (acts.Blocked whats.Back word) n ne = only.counted n ne
+  counted_only (acts.Blocked whats.Large word) n ne = only.counted n ne
+  counted_only _ n ne = only.counted n ne
+
   owner_only : (act : Act) → is_another 0 (after s m (by_zero act)).state.gate.owner ≡ false
   owner_only acts.Lock = refl
   owner_only acts.Unlock = refl
@@ -107,6 +142,7 @@ module _ (s : Setting) (m : Configuration) (only : IsOnly m) where
   pub after_only : (act : Act) → IsOnly (after s m (by_zero act))
   after_only act = record {
     calls = λ n ne. let z = ne_eqb n 0 ne in rw z (only.calls n ne);
+    counted = counted_only act;
     owner = owner_only act;
     locks = locks_only act;
   }

@@ -4,25 +4,31 @@
 //! Nobody else can hold a lock, so no call is `Busy`. Addresses are offsets in the heap's region, in bytes.
 #![tactic(auto)]
 
-ghost use Rattle.std.specs.Prelude.{◌≡◌, IfOk};
+ghost use Rattle.std.specs.Prelude.{◌≡◌, ◌++◌, ◌∷◌, [], true, List, IfOk, OnOk};
 ghost use Rattle.heap_model.specs.declared.Call.TheVariants as calls;
+ghost use Rattle.heap_model.specs.declared.Reply.{Reply as ReplyOf};
 ghost use Rattle.heap_model.specs.State.{live};
 ghost use Rattle.heap_model.specs.History.{IsLegal};
 ghost use Rattle.heap_model.specs.Limits.{AreValid};
 ghost use Rattle.heap_model.specs.Serial.{IsIdle};
 ghost use Rattle.layout_decode.specs.Decode.{decode, IsReadable};
 ghost use Rattle.layout_decode.specs.Shows.{Shows};
-ghost use Rattle.one_heap.specs.Lone.{LoneHeap, new_with, setting_of, history_of, behind, IsBuilt, Serves};
+ghost use Rattle.thread_calls.specs.Serving.{IsServable, IsDepthBehind, is_last};
+ghost use Rattle.one_heap.specs.Lone.{LoneHeap, new_with, setting_of, history_of, behind, Serves, Walks};
 
 use heap_closing::close;
 use heap_gate::{join, make_caller};
-use heap_model::{AllocNo, Call, Flags, FreeNo, Limits, OutOfMemory, ReNo, Reply, WordNo};
+use heap_model::{
+    AllocNo, Call, Flags, FreeNo, Limits, LockNo, NotOwner, OutOfMemory, ReNo, Reply, WordNo,
+};
 use heap_now::{
-    Caller, Heap, Root, alloc_now, free_now, get_now, open_heap, put_now, realloc_now, size_now,
+    Caller, Heap, Root, alloc_now, compact_now, free_now, get_now, lock_now, open_heap, put_now,
+    realloc_now, size_now, unlock_now,
 };
 use layout_decode::Image;
-use std::alloc::Global;
+use std::alloc::{AllocError, Global};
 use std::marker::Model;
+use thread_calls::walk;
 
 /// The affinity slot of the only caller.
 const SLOT: u32 = 0;
@@ -60,10 +66,13 @@ impl OneHeap {
         Ok(OneHeap { heap, root, caller })
     }
 
-    /// Makes a call and answers its reply.
+    /// Makes a call and answers its reply. Taking the heap lock again, or giving it back but for the last time, takes no step. A walk is
+    /// several calls, and is none of these.
     pub fn serve(&mut self, call: &Call) -> Reply
-        requires { IsBuilt call.now }
-        ensures { Serves self.old self.new call.now result }
+        requires { IsServable call.now }
+        ensures serves { Serves self.old self.new call.now (result ∷ []) }
+        ensures last { is_last result ≡ true }
+        ensures depth { IsDepthBehind call.now self.old.depth self.new.depth }
     {
         match *call {
             Call::Alloc { n, flags } => self.alloc(n, flags),
@@ -72,12 +81,25 @@ impl OneHeap {
             Call::Size { addr } => self.size(addr),
             Call::Get { addr, index } => self.get(addr, index),
             Call::Put { addr, index, value } => self.put(addr, index, value),
-            _ => unreachable!(),
+            Call::Lock => self.lock(),
+            Call::Unlock => self.unlock(),
+            Call::Compact => self.compact(),
+            Call::WalkNext { .. } | Call::Stay => unreachable!(),
         }
     }
 
+    /// Walks over all live blocks, by address, and puts a reply for each behind those that are there, and then their number; or a
+    /// refusal, where the heap lock is not taken. Where there is no memory for a reply, the walk goes no further.
+    pub fn walk(&mut self, replies: &mut Vec<Reply>) -> Result<(), AllocError>
+        ensures { OnOk result ((its : List ReplyOf) × (replies.new.items ≡ replies.old.items ++ its) × Walks self.old self.new its) }
+    {
+        walk(&self.heap, &mut self.caller, replies)
+    }
+
     fn alloc(&mut self, n: u64, flags: Flags) -> Reply
-        ensures { Serves self.old self.new (calls.Alloc n flags) result }
+        ensures serves { Serves self.old self.new (calls.Alloc n flags) (result ∷ []) }
+        ensures last { is_last result ≡ true }
+        ensures depth { IsDepthBehind (calls.Alloc n flags) self.old.depth self.new.depth }
     {
         match alloc_now(&self.heap, &mut self.caller, n, flags) {
             Ok(addr) => Reply::Address(addr),
@@ -87,7 +109,9 @@ impl OneHeap {
     }
 
     fn realloc(&mut self, addr: u64, n: u64, flags: Flags) -> Reply
-        ensures { Serves self.old self.new (calls.Realloc addr n flags) result }
+        ensures serves { Serves self.old self.new (calls.Realloc addr n flags) (result ∷ []) }
+        ensures last { is_last result ≡ true }
+        ensures depth { IsDepthBehind (calls.Realloc addr n flags) self.old.depth self.new.depth }
     {
         match realloc_now(&self.heap, &mut self.caller, addr, n, flags) {
             Ok(there) => Reply::Address(there),
@@ -99,7 +123,9 @@ impl OneHeap {
     }
 
     fn free(&mut self, addr: u64) -> Reply
-        ensures { Serves self.old self.new (calls.Free addr) result }
+        ensures serves { Serves self.old self.new (calls.Free addr) (result ∷ []) }
+        ensures last { is_last result ≡ true }
+        ensures depth { IsDepthBehind (calls.Free addr) self.old.depth self.new.depth }
     {
         match free_now(&self.heap, &mut self.caller, addr) {
             Ok(()) => Reply::Done,
@@ -109,7 +135,9 @@ impl OneHeap {
     }
 
     fn size(&mut self, addr: u64) -> Reply
-        ensures { Serves self.old self.new (calls.Size addr) result }
+        ensures serves { Serves self.old self.new (calls.Size addr) (result ∷ []) }
+        ensures last { is_last result ≡ true }
+        ensures depth { IsDepthBehind (calls.Size addr) self.old.depth self.new.depth }
     {
         match size_now(&self.heap, &mut self.caller, addr) {
             Ok(n) => Reply::Number(n),
@@ -119,7 +147,9 @@ impl OneHeap {
     }
 
     fn get(&mut self, addr: u64, index: u64) -> Reply
-        ensures { Serves self.old self.new (calls.Get addr index) result }
+        ensures serves { Serves self.old self.new (calls.Get addr index) (result ∷ []) }
+        ensures last { is_last result ≡ true }
+        ensures depth { IsDepthBehind (calls.Get addr index) self.old.depth self.new.depth }
     {
         match get_now(&self.heap, &mut self.caller, addr, index) {
             Ok(value) => Reply::Number(value),
@@ -130,7 +160,9 @@ impl OneHeap {
     }
 
     fn put(&mut self, addr: u64, index: u64, value: u64) -> Reply
-        ensures { Serves self.old self.new (calls.Put addr index value) result }
+        ensures serves { Serves self.old self.new (calls.Put addr index value) (result ∷ []) }
+        ensures last { is_last result ≡ true }
+        ensures depth { IsDepthBehind (calls.Put addr index value) self.old.depth self.new.depth }
     {
         match put_now(&self.heap, &mut self.caller, addr, index, value) {
             Ok(()) => Reply::Done,
@@ -140,8 +172,43 @@ impl OneHeap {
         }
     }
 
-    /// What the heap leaves behind: an image of its metadata, which shows its state.
+    fn lock(&mut self) -> Reply
+        ensures serves { Serves self.old self.new calls.Lock (result ∷ []) }
+        ensures last { is_last result ≡ true }
+        ensures depth { IsDepthBehind calls.Lock self.old.depth self.new.depth }
+    {
+        match lock_now(&self.heap, &mut self.caller) {
+            Ok(()) => Reply::Done,
+            Err(LockNo::Depth) => Reply::Depth,
+            Err(LockNo::Busy(_)) => unreachable!(),
+        }
+    }
+
+    fn unlock(&mut self) -> Reply
+        ensures serves { Serves self.old self.new calls.Unlock (result ∷ []) }
+        ensures last { is_last result ≡ true }
+        ensures depth { IsDepthBehind calls.Unlock self.old.depth self.new.depth }
+    {
+        match unlock_now(&self.heap, &mut self.caller) {
+            Ok(()) => Reply::Done,
+            Err(NotOwner) => Reply::NotOwner,
+        }
+    }
+
+    fn compact(&mut self) -> Reply
+        ensures serves { Serves self.old self.new calls.Compact (result ∷ []) }
+        ensures last { is_last result ≡ true }
+        ensures depth { IsDepthBehind calls.Compact self.old.depth self.new.depth }
+    {
+        match compact_now(&self.heap, &mut self.caller) {
+            Ok(pages) => Reply::Compacted(pages),
+            Err(_) => unreachable!(),
+        }
+    }
+
+    /// What the heap leaves behind: an image of its metadata, which shows its state. The heap lock was given back.
     pub fn close(self) -> Image
+        requires free { self.depth ≡ 0 }
         ensures legal { IsLegal (setting_of self) (history_of self) }
         ensures idle { IsIdle (behind self) }
         ensures shows { Shows result (setting_of self) (behind self).state }

@@ -48,3 +48,25 @@ fn leaves_header_words(rt: HostRuntime) -> Result<(), Fail> {
     assert_eq!(rt; image.heads.word(515), 0x9e37_78b9_7f4a_5c0d);
     Ok(())
 }
+
+/// The heap lock at two depths, a walk over two blocks, and a compaction.
+#[test]
+fn walks_under_the_heap_lock(rt: HostRuntime) -> Result<(), Fail> {
+    let alloc_of = rt.alloc();
+    let mut heap = OneHeap::open(alloc_of, LIMITS, 1)?;
+    let mut replies = Vec::new(alloc_of);
+    assert!(rt; heap.serve(&alloc(131_073)) == Reply::Address(8192));
+    assert!(rt; heap.serve(&alloc(24)) == Reply::Address(143_424));
+    heap.walk(&mut replies)?;
+    assert!(rt; heap.serve(&Call::Lock) == Reply::Done);
+    assert!(rt; heap.serve(&Call::Lock) == Reply::Done);
+    assert!(rt; heap.serve(&Call::Compact) == Reply::Compacted(0));
+    heap.walk(&mut replies)?;
+    assert!(rt; heap.serve(&Call::Unlock) == Reply::Done);
+    assert!(rt; heap.serve(&Call::Unlock) == Reply::Done);
+    assert!(rt; heap.serve(&Call::Unlock) == Reply::NotOwner);
+    assert_eq!(rt; replies.len(), 4);
+    assert_eq!(rt; replies[0], Reply::NotLocked);
+    assert_eq!(rt; replies[3], Reply::Walked(2));
+    Ok(())
+}

@@ -1,5 +1,5 @@
 -- Rounds whose commands stand in one list, with one line more, and what is read of them.
-use Rattle.std.proofs.Common.{◌≡◌, ℕ, zero, suc, ◌+◌, ◌-◌, ◌<◌, ◌≤◌, List, [], ◌∷◌, ◌++◌, length, take, drop, get_or, eqb, refl, ap, sym, ◌∙◌, subst, arith, inl, inr, append_assoc, length-append, length-drop}
+use Rattle.std.proofs.Common.{◌≡◌, ℕ, zero, suc, ◌+◌, ◌-◌, ◌<◌, ◌≤◌, List, [], ◌∷◌, ◌++◌, length, take, drop, get_or, eqb, refl, ap, sym, ◌∙◌, subst, arith, inl, inr, length-append, length-drop}
 use Rattle.std.proofs.lemmas.Bool.{cases_Bool, eqb-true, eqb-false, eq-eqb, ne_eqb}
 use Rattle.std.proofs.lemmas.List.{take_rest, get_or_default}
 use Rattle.script_text.specs.declared.commands.Command.{Command}
@@ -11,8 +11,7 @@ use Rattle.script_text.specs.Marks.{first_mark, own_place, own_piece, Rise}
 use Rattle.script_text.specs.Flat.{first_command, marked_thread, threads_by, rounds_by, AreFlat, some_round, last_round}
 use Rattle.script_text.specs.Scripts.{no_thread}
 use Rattle.script_text.specs.ThreadLines.{ThreadLines}
-use Rattle.script_text.specs.Unbuilt.{of_threads, of_rounds}
-use Rattle.script_text.proofs.MarkLemmas.{marks_push, marks_on, pieces_length, pieces_mark, pieces_items, pieces_changed, piece_at, rise_at, pieces_whole, cut_length, cut_item}
+use Rattle.script_text.proofs.MarkLemmas.{marks_push, marks_on, pieces_length, pieces_mark, pieces_items, pieces_changed, piece_at, rise_at, cut_length, cut_item}
 
 pub threads_length : (ts : List ThreadMark) (cs : List CommandLine) → length (threads_by ts cs) ≡ length ts
 threads_length ts cs = pieces_length first_command marked_thread ts cs
@@ -179,24 +178,3 @@ pub mark_up : (ts : List ThreadMark) (cs : List CommandLine) (i : ℕ) (m : Thre
 mark_up ts cs i m end r l e f =
     let up = rise_at first_command 0 ts (length cs) i m r l e in
     (subst (λ n. m.first ≤ n) (sym f) up.0, subst (λ n. n ≤ length cs) (sym f) up.1)
-
----- All commands
-
-all_threads : (low : ℕ) (ts : List ThreadMark) (cs : List CommandLine) → Rise first_command low ts (length cs) → of_threads (threads_by ts cs) ≡ drop (first_mark first_command ts (length cs)) cs
-all_threads low ts cs r = pieces_whole first_command marked_thread (λ q. q) of_threads refl (λ xs ys. refl) refl (λ m q ys. refl) low ts cs r
-
-of_threads_append : (xs ys : List ThreadLines) → of_threads (xs ++ ys) ≡ of_threads xs ++ of_threads ys
-of_threads_append [] ys = refl
-of_threads_append (x ∷ xs) ys = ap (λ zs. x.commands ++ zs) (of_threads_append xs ys) ∙ sym (append_assoc x.commands (of_threads xs) (of_threads ys))
-
-all_rounds : (low : ℕ) (rs : List ℕ) (ts : List ThreadLines) → Rise own_place low rs (length ts) → of_rounds (rounds_by rs ts) ≡ of_threads (drop (first_mark own_place rs (length ts)) ts)
-all_rounds low rs ts r = pieces_whole own_place own_piece of_threads of_rounds refl of_threads_append refl (λ m q ys. refl) low rs ts r
-
-pub flat_commands : (rs : List ℕ) (ts : List ThreadMark) (cs : List CommandLine) → AreFlat rs ts cs → of_rounds (rounds_by rs (threads_by ts cs)) ≡ cs
-flat_commands rs ts cs a =
-    let same = threads_length ts cs in
-    let rise = subst (λ n. Rise own_place 0 rs n) (sym same) a.of_rounds.rise in
-    all_rounds 0 rs (threads_by ts cs) rise
-    ∙ ap (λ n. of_threads (drop n (threads_by ts cs))) (ap (first_mark own_place rs) same ∙ a.of_rounds.begins)
-    ∙ all_threads 0 ts cs a.of_threads.rise
-    ∙ ap (λ n. drop n cs) a.of_threads.begins

@@ -1,7 +1,7 @@
 -- The words that are printed for causes.
 use Rattle.std.specs.Prelude.{ℕ, List, codes}
 use Rattle.script_text.specs.declared.faults.Cause.{Cause}
-use Rattle.script_text.specs.declared.faults.Cause.TheVariants.{BadLine, BadNumber, BadName, TooManyThreads, TooManyWalks, Unbalanced, NotSingle, TooLong, NotBuilt}
+use Rattle.script_text.specs.declared.faults.Cause.TheVariants.{BadLine, BadNumber, BadName, TooManyThreads, TooManyWalks, Unbalanced, NotSingle, TooLong}
 
 abbrev pub cause_text : Cause → List ℕ
 cause_text BadLine = codes "badline"
@@ -12,4 +12,3 @@ cause_text TooManyWalks = codes "walks"
 cause_text Unbalanced = codes "unbalanced"
 cause_text NotSingle = codes "notsingle"
 cause_text TooLong = codes "toolong"
-cause_text NotBuilt = codes "notbuilt"

@@ -16,7 +16,6 @@ pub mod Rounds
 pub mod Reading
 pub mod Taken
 pub mod Scripts
-pub mod Unbuilt
 pub mod Values
 pub mod Generator
 pub mod Drawing

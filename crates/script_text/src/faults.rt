@@ -16,7 +16,6 @@ pub enum Cause {
     Unbalanced,
     NotSingle,
     TooLong,
-    NotBuilt,
 }
 
 impl Cause {
@@ -33,7 +32,6 @@ impl Cause {
             Cause::Unbalanced => "unbalanced",
             Cause::NotSingle => "notsingle",
             Cause::TooLong => "toolong",
-            Cause::NotBuilt => "notbuilt",
         }
     }
 }

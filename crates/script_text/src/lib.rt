@@ -13,7 +13,6 @@ mod saying;
 mod scripts;
 #[cfg(test)]
 mod tests;
-mod unbuilt;
 mod words;
 
 pub use commands::{Command, CommandLine, Line, NumberedLine, Target};

@@ -5,7 +5,6 @@ ghost use Rattle.script_text.specs.Grown.{change_last, thread_with, thread_from,
 ghost use Rattle.script_text.specs.Marks.{first_mark, own_place, AreMarks};
 ghost use Rattle.script_text.specs.Flat.{first_command, threads_by, some_round, last_round};
 ghost use Rattle.script_text.specs.Scripts.{no_thread};
-ghost use Rattle.script_text.specs.Unbuilt.{of_rounds};
 
 use crate::commands::{CommandLine, Line};
 use std::alloc::{AllocError, Global};
@@ -185,13 +184,6 @@ impl Rounds {
         let threads = self.threads.as_slice();
         let at = self.rounds[round] + thread;
         commands_at(self.commands.as_slice(), threads, at)
-    }
-
-    /// The commands of all threads, in the order of their lines.
-    pub fn all_commands(&self) -> &[CommandLine]
-        ensures { result.now ≡ of_rounds self.now }
-    {
-        self.commands.as_slice()
     }
 }
 

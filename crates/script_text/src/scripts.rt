@@ -3,13 +3,11 @@ ghost use Rattle.std.specs.Prelude.{◌≡◌, ◌<◌, [], length, slice_index_
 ghost use Rattle.script_text.specs.Generator.{one_thread};
 ghost use Rattle.script_text.specs.Reading.{reading_of, IsRefusedAs};
 ghost use Rattle.script_text.specs.Scripts.{AreFew, round_at, thread_at, command_at, second_thread, first_second, most_threads};
-ghost use Rattle.script_text.specs.Unbuilt.{first_unbuilt};
 
 use crate::commands::{Command, CommandLine};
 use crate::faults::{Cause, ScriptFault, ScriptNo};
 use crate::reading::read_lines;
 use crate::rounds::Rounds;
-use crate::unbuilt::unbuilt_in;
 use std::alloc::{AllocError, Global};
 use std::marker::Model;
 
@@ -127,15 +125,6 @@ impl Script {
             Some(line) => Some(line.command),
             None => None,
         }
-    }
-}
-
-impl Script {
-    /// The line of the first command that the program does not run.
-    pub fn first_unbuilt(&self) -> Option<u32>
-        ensures { result ≡ first_unbuilt self.now.rounds }
-    {
-        unbuilt_in(self.rounds.all_commands())
     }
 }
 

@@ -212,24 +212,9 @@ size a1234567890123456789012345678902\nsize A\n",
 }
 
 #[test]
-fn first_command_that_is_not_built(rt: HostRuntime) -> Result<(), Fail> {
-    let alloc = rt.alloc();
-    let script = read_script(
-        alloc,
-        b"alloc a 131073\nzalloc b 520193\nrealloc a 16\ninplace a 8\nput a 0 1\nget a 0\nsize b\nfree a\n",
-    )?;
-    assert_eq!(rt; script.first_unbuilt(), None);
-    let script = read_script(alloc, b"alloc a 16\n\nlock\nwalk\nunlock\n")?;
-    assert_eq!(rt; script.first_unbuilt(), Some(3));
-    let script = read_script(alloc, b"lock\nunlock\ncompact\n")?;
-    assert_eq!(rt; script.first_unbuilt(), Some(1));
-    Ok(())
-}
-
-#[test]
 fn printed_causes(rt: HostRuntime) -> Result<(), Fail> {
     assert_eq!(rt; Cause::BadLine.text(), "badline");
     assert_eq!(rt; Cause::TooManyThreads.text(), "threads");
-    assert_eq!(rt; Cause::NotBuilt.text(), "notbuilt");
+    assert_eq!(rt; Cause::NotSingle.text(), "notsingle");
     Ok(())
 }

@@ -76,13 +76,13 @@ no_step a d call reply r e by = record {
   served = λ s q. subst (λ o. IsServed (λ asked t xs. IsTried s a.number asked t xs) o call (reply ∷ []) []) (sym by) (refl, refl);
 }
 
-lock_deeper : (d : ℕ) → d ≢ 0 → d < 65535 → by_depth d calls.Lock ≡ Some replies.Done
+pub lock_deeper : (d : ℕ) → d ≢ 0 → d < 65535 → by_depth d calls.Lock ≡ Some replies.Done
 lock_deeper d more few =
     let a : (d == 0) ≡ false = ne_eqb d 0 more in
     let b : (d == 65535) ≡ false = ne_eqb d 65535 (λ z. let none : ⊥ = omega (arith, z) in none) in
     rw (a, b) refl
 
-unlock_inner : (d : ℕ) → d ≢ 0 → d ≢ 1 → by_depth d calls.Unlock ≡ Some replies.Done
+pub unlock_inner : (d : ℕ) → d ≢ 0 → d ≢ 1 → by_depth d calls.Unlock ≡ Some replies.Done
 unlock_inner d more other =
     let a : (d == 0) ≡ false = ne_eqb d 0 more in
     let b : (d == 1) ≡ false = ne_eqb d 1 other in

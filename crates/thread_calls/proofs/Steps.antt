@@ -182,6 +182,8 @@ module _ (a b c : Token) (its : List Reply) (count from : ℕ) (x : WalksSoFar a
               (x.so_far s (setting_goes b c g s q)) (step_tried a b c from (replies.Walked count) w x.goes.number s q)));
         };
         ends = seen_end its count x.seen;
+        still = λ none. absurd (owns none);
+        legal = λ _. w.answers.legal;
       }
 
   pub still_goes : (found : Option Block) → Walks b c from found → Goes a c
@@ -215,4 +217,6 @@ refused a r e = record {
         subst (λ (d : ℕ). IsServed (λ asked t xs. IsTried s a.number asked t xs) (by_depth d (calls.WalkNext 0)) (calls.WalkNext 0) (replies.NotLocked ∷ []) []) (sym e) (refl, refl);
   };
   ends = refl;
+  still = λ _. refl;
+  legal = λ owns. absurd (owns e);
 }

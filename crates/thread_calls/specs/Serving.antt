@@ -1,5 +1,5 @@
 -- What a caller does for a call that its thread asks, whether it takes a step or is answered by the depth.
-use Rattle.std.specs.Prelude.{◌≡◌, ℕ, ◌+◌, ◌-◌, ◌≤◌, Bool, true, false, List, [], ◌∷◌, MatchBool}
+use Rattle.std.specs.Prelude.{◌≡◌, ◌≢◌, ℕ, ◌+◌, ◌-◌, ◌≤◌, Bool, true, false, List, [], ◌∷◌, MatchBool}
 use mathlib.Core.List.{IsPrefix}
 use Rattle.heap_model.specs.declared.Call.{Call}
 use Rattle.heap_model.specs.declared.Call.TheVariants as calls
@@ -8,6 +8,7 @@ use Rattle.heap_model.specs.declared.Reply.TheVariants as replies
 use Rattle.heap_model.specs.History.{configuration_of}
 use Rattle.heap_model.specs.Moments.{moments}
 use Rattle.heap_model.specs.Served.{IsTried, IsServed, by_depth, depth_after}
+use Rattle.claim_rule.specs.Entries.{IsLegalWith}
 use Rattle.heap_gate.specs.Token.{Token, Always}
 use Rattle.heap_now.specs.Calls.{IsReady}
 
@@ -49,7 +50,10 @@ pub record Serves (old new : Token) (call : Call) (its : List Reply) : Type 0 wh
   pub depth : new.depth ≡ depth_after old.depth call its
   pub served : Always new (λ s. IsServed (λ asked reply xs. IsTried s old.number asked reply xs) (by_depth old.depth call) call its (moments s old.number (configuration_of s old.seen) goes.seen.0))
 
--- A walk got these replies: a block for each call but the last one, which found none, or one refusal.
+-- A walk got these replies: a block for each call but the last one, which found none, or one refusal, where the caller
+-- has not the heap lock and stays as it was. The list behind the calls is legal.
 pub record HasWalked (old new : Token) (its : List Reply) : Type 0 where
   pub serves : Serves old new (calls.WalkNext 0) its
   pub ends : EndsOnce its
+  pub still : old.depth ≡ 0 → new ≡ old
+  pub legal : old.depth ≢ 0 → IsLegalWith new.opening new.roll new.seen

@@ -16,7 +16,7 @@ use Rattle.heap_gate.specs.Token.{HeapToken, Token}
 use Rattle.heap_now.specs.Calls.{IsCallerOf}
 use Rattle.thread_calls.specs.Serving.{Serves, EndsOnce, HasWalked, IsServable, IsDepthBehind, is_last}
 use Rattle.thread_rounds.specs.Threads.{answered}
-use Rattle.thread_commands.specs.Working.{IsLed, RunsOne}
+use Rattle.thread_commands.specs.Working.{Fills, IsLed, RunsOne}
 use Rattle.thread_commands.specs.declared.workers.Worker.{Worker}
 
 ---- Which calls there are
@@ -67,13 +67,6 @@ seen_last (replies.Seen b) = refl
 seen_last (replies.Walked n) = refl
 seen_last (replies.Compacted n) = refl
 
--- these replies are all of these commands
-abbrev pub Fills : List Command → List Reply → Type 0
-Fills [] [] = Unit {0}
-Fills [] (r ∷ rs) = ⊥
-Fills (c ∷ cs) [] = ⊥
-Fills (c ∷ cs) (r ∷ rs) = MatchBool (is_seen r) (Fills (c ∷ cs) rs) (Fills cs rs)
-
 pub ends_fills : (command : Command) (its : List Reply) → EndsOnce its → Fills (command ∷ []) its
 ends_fills command [] h = absurd h
 ends_fills command (r ∷ rs) h = go (is_last r) (is_seen r) (seen_last r) h (ends_fills command rs)
@@ -84,22 +77,22 @@ ends_fills command (r ∷ rs) h = go (is_last r) (is_seen r) (seen_last r) h (en
     go false true e h more = more h
     go false false e h more = absurd (cc e)
 
--- a walk assigns nothing
-pub answered_walk : (its : List Reply) → EndsOnce its → (r : Reply) × (answered (commands.Walk ∷ []) its ≡ record { command = commands.Walk; reply = r } ∷ [])
-answered_walk [] h = absurd h
-answered_walk (r ∷ rs) h = go (is_last r) (is_seen r) (seen_last r) h (answered_walk rs)
+-- the last reply is the command's
+pub answered_ends : (command : Command) (its : List Reply) → EndsOnce its → (r : Reply) × (answered (command ∷ []) its ≡ record { command = command; reply = r } ∷ [])
+answered_ends command [] h = absurd h
+answered_ends command (r ∷ rs) h = go (is_last r) (is_seen r) (seen_last r) h (answered_ends command rs)
   where
-    go : (x y : Bool) → y ≡ not x → MatchBool x (rs ≡ []) (EndsOnce rs) → (EndsOnce rs → (q : Reply) × (answered (commands.Walk ∷ []) rs ≡ record { command = commands.Walk; reply = q } ∷ []))
-        → (q : Reply) × ((if y then answered (commands.Walk ∷ []) rs else record { command = commands.Walk; reply = r } ∷ answered [] rs) ≡ record { command = commands.Walk; reply = q } ∷ [])
+    go : (x y : Bool) → y ≡ not x → MatchBool x (rs ≡ []) (EndsOnce rs) → (EndsOnce rs → (q : Reply) × (answered (command ∷ []) rs ≡ record { command = command; reply = q } ∷ []))
+        → (q : Reply) × ((if y then answered (command ∷ []) rs else record { command = command; reply = r } ∷ answered [] rs) ≡ record { command = command; reply = q } ∷ [])
     go true true e h more = absurd (cc e)
     go true false e h more = (r, rw h refl)
     go false true e h more = more h
     go false false e h more = absurd (cc e)
 
-answered_one : (command : Command) (r : Reply) → is_last r ≡ true → answered (command ∷ []) (r ∷ []) ≡ record { command = command; reply = r } ∷ []
+pub answered_one : (command : Command) (r : Reply) → is_last r ≡ true → answered (command ∷ []) (r ∷ []) ≡ record { command = command; reply = r } ∷ []
 answered_one command r l = rw (seen_last r, l) refl
 
-once : (r : Reply) → is_last r ≡ true → EndsOnce (r ∷ [])
+pub once : (r : Reply) → is_last r ≡ true → EndsOnce (r ∷ [])
 once r e = rw e refl
 
 ---- What the worker has done
@@ -125,7 +118,7 @@ module _ (a b : Worker) where
     ends = w.ends;
     replies = pushed;
     names =
-        let x = answered_walk its w.ends in
+        let x = answered_ends commands.Walk its w.ends in
         subst (λ (t : NameTable). Tells t earlier (own ++ answered (commands.Walk ∷ []) its)) (sym same)
         (subst (λ (l : List Answered). Tells a.names earlier (own ++ l)) (sym x.1) (noted_none a.names a.names commands.Walk x.0 earlier own k (λ name. refl) refl));
   }

@@ -21,9 +21,9 @@ use Rattle.heap_api.proofs.Made.{moments_on}
 use Rattle.thread_calls.specs.Serving.{Goes}
 use Rattle.thread_calls.proofs.Steps.{goes_self, goes_on, setting_goes}
 use Rattle.thread_rounds.specs.Threads.{answered, asked_at, Tries, IsThread}
-use Rattle.thread_commands.specs.Working.{RunsOne, Runs}
+use Rattle.thread_commands.specs.Working.{Fills, RunsOne, Runs}
 use Rattle.thread_commands.specs.declared.workers.Worker.{Worker}
-use Rattle.thread_commands.proofs.Commands.{Fills, ends_fills, balanced_on}
+use Rattle.thread_commands.proofs.Commands.{ends_fills, balanced_on}
 
 ---- Replies of several commands
 

@@ -1,17 +1,25 @@
 -- What a worker is, and what it does in a round.
-use Rattle.std.specs.Prelude.{◌≡◌, false, List, [], ◌∷◌, ◌++◌}
+use Rattle.std.specs.Prelude.{◌≡◌, false, List, [], ◌∷◌, ◌++◌, MatchBool}
 use Rattle.heap_model.specs.declared.Call.{Call}
 use Rattle.heap_model.specs.declared.Reply.{Reply}
 use Rattle.heap_model.specs.History.{configuration_of}
 use Rattle.heap_model.specs.Moments.{moments}
 use Rattle.script_text.specs.declared.commands.Command.{Command}
 use Rattle.script_text.specs.Values.{Answered}
+use Rattle.report_text.specs.Report.{is_seen}
 use Rattle.name_values.specs.Table.{Tells}
 use Rattle.heap_gate.specs.Token.{HeapToken, Token, Always}
 use Rattle.heap_now.specs.Callers.{IsFreeCaller}
 use Rattle.thread_calls.specs.Serving.{Goes, Serves, EndsOnce, IsDepthBehind}
 use Rattle.thread_rounds.specs.Threads.{answered, asked_at, IsThread}
 use Rattle.thread_commands.specs.declared.workers.Worker.{Worker}
+
+-- these replies are all that these commands got: a block that a walk has seen is not its last one
+abbrev pub Fills : List Command → List Reply → Type 0
+Fills [] [] = Unit {0}
+Fills [] (r ∷ rs) = ⊥
+Fills (c ∷ cs) [] = ⊥
+Fills (c ∷ cs) (r ∷ rs) = MatchBool (is_seen r) (Fills (c ∷ cs) rs) (Fills cs rs)
 
 -- its caller may call, and does not own the heap lock
 abbrev pub IsFree : HeapToken → Worker → Type 0

@@ -12,6 +12,8 @@ use std::thread::Threads;
 
 const ONE_SEGMENT: [&str; 2] = ["--segments", "1"];
 
+const ONE_CALLER: [&str; 4] = ["--mode", "one", "--segments", "1"];
+
 /// Runs a text, and compares the status and what is written.
 fn runs<R: Threads + Wait + Sync + Abort>(
     rt: &R,
@@ -28,6 +30,17 @@ fn runs<R: Threads + Wait + Sync + Abort>(
     assert_eq!(rt; ran.status, status);
     assert_eq!(rt; sink.held(), written.as_bytes());
     Ok(())
+}
+
+/// .. of one thread, which mode `one` runs too.
+fn runs_in_both<R: Threads + Wait + Sync + Abort>(
+    rt: &R,
+    alloc: Global,
+    text: &str,
+    written: &str,
+) -> Result<(), Fail> {
+    runs(rt, alloc, &ONE_SEGMENT, text, 0, written)?;
+    runs(rt, alloc, &ONE_CALLER, text, 0, written)
 }
 
 /// .. with the words absent: what is written at status 0.
@@ -103,7 +116,7 @@ block 278528 135168 back
 block 413696 135168 back
 blocks 3 bytes 405504
 ";
-    runs(&rt, rt.alloc(), &ONE_SEGMENT, text, 0, written)
+    runs_in_both(&rt, rt.alloc(), text, written)
 }
 
 #[test]
@@ -121,7 +134,7 @@ block 8256 5 vs
 blocks 1 bytes 5
 ";
     let text = "alloc x 5\nlock\nwalk\nunlock\nwalk\n";
-    runs(&rt, rt.alloc(), &ONE_SEGMENT, text, 0, written)
+    runs_in_both(&rt, rt.alloc(), text, written)
 }
 
 /// The heap lock is taken 65,535 times at most, and given back as often.
@@ -134,7 +147,7 @@ fn deepest_lock(rt: HostRuntime) -> Result<(), Fail> {
     written.push_str("0 0 lock depth\n")?;
     written.push_str(&repeated(alloc, "", "0 0 unlock ok\n", 65_535)?)?;
     written.push_str("0 0 unlock notowner\nblocks 0 bytes 0\n")?;
-    runs(&rt, alloc, &ONE_SEGMENT, &text, 0, &written)
+    runs_in_both(&rt, alloc, &text, &written)
 }
 
 /// Behind a round a name has the value that the highest thread gave it.

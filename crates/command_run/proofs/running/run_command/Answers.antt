@@ -1,17 +1,19 @@
 use Rattle.std.proofs.Common.{sym, subst}
-use Rattle.heap_model.specs.declared.Call.{Call}
-use Rattle.one_heap.specs.Lone.{IsBuilt, Serves}
+use Rattle.std.specs.Prelude.{OnOk}
+use Rattle.script_text.specs.Calls.{call_of}
+use Rattle.script_text.specs.declared.commands.Command.{Command}
+use Rattle.thread_calls.specs.Serving.{IsDepthBehind}
+use Rattle.command_run.specs.Running.{RunsOne}
 use Rattle.command_run.specs.Values.{value_at}
-use Rattle.command_run.proofs.RunLemmas.{runs_one}
-use Rattle.command_run.proofs.ServedLemmas.{call_built}
 use Rattle.command_run.proofs.running.run_command.Goals as goal
 
-pub serve-reply-requires : goal.serve-reply-requires
-serve-reply-requires c = subst IsBuilt (sym c.call_for-call.ensures) (call_built (value_at c.args.values.now) c.args.command c.requires)
+pub returns-in-Walk-clause-depth : goal.returns-in-Walk-clause-depth
+returns-in-Walk-clause-depth c =
+    subst (λ (k : Command). OnOk c.run_walk.result (IsDepthBehind (call_of (value_at c.args.values.now) k) c.args.heap.now.depth c.run_walk.new.heap.depth)) (sym c.in-Walk.is) c.run_walk.ensures.depth
 
-pub returns : goal.returns
-returns c =
-    runs_one c.args.heap.now c.serve-reply.new.self (value_at c.args.values.now) (value_at c.note.new.values) c.args.command c.serve-reply.result
-    (call_built (value_at c.args.values.now) c.args.command c.requires)
-    (subst (λ (k : Call). Serves c.args.heap.now c.serve-reply.new.self k c.serve-reply.result) c.call_for-call.ensures c.serve-reply.ensures)
-    c.in_ok-note.ensures
+pub returns-in-Walk-clause-runs : goal.returns-in-Walk-clause-runs
+returns-in-Walk-clause-runs c =
+    subst (λ (k : Command). OnOk c.run_walk.result (RunsOne c.args.heap.now c.run_walk.new.heap (value_at c.args.values.now) (value_at c.args.values.now) k c.args.replies.now.items c.run_walk.new.replies.items)) (sym c.in-Walk.is) c.run_walk.ensures.runs
+
+pub run_call-requires : goal.run_call-requires
+run_call-requires c = c.in_default.not-Walk

@@ -4,17 +4,18 @@ use Rattle.script_text.specs.declared.commands.Command.{Command}
 use Rattle.script_text.specs.Scripts.{round_at, commands_of}
 use Rattle.command_run.specs.Values.{value_at}
 use Rattle.command_run.specs.Commands.{unassigned, round_commands, in_threads, in_rounds}
-use Rattle.command_run.specs.Running.{IsServed, AreServed, Runs, RoundRuns, Fit}
+use Rattle.script_laws.specs.Printable.{AreBalanced}
+use Rattle.command_run.specs.Running.{Runs, RoundRuns, Fit}
 use Rattle.command_run.proofs.RunLemmas.{runs_append}
-use Rattle.command_run.proofs.ServedLemmas.{all_in_rounds, mapped_at}
+use Rattle.command_run.proofs.ServedLemmas.{mapped_at}
 use Rattle.command_run.proofs.FitLemmas.{take_mapped, fit_round, rounds_more}
 use Rattle.command_run.proofs.running.run_rounds.Goals as goal
 
-pub run_threads-requires-clause-served : goal.run_threads-requires-clause-served
-run_threads-requires-clause-served c =
+pub run_threads-requires-clause-balanced : goal.run_threads-requires-clause-balanced
+run_threads-requires-clause-balanced c =
     let s = c.args.script.now in
     let low = rw c.rounds-round-end.ensures at c.loop-round-test.true in
-    mapped_at (λ (r : List (List Command)). AreServed (in_threads r)) round_commands s.rounds c.loop-round.round [] (all_in_rounds IsServed (commands_of s) c.requires) low
+    mapped_at AreBalanced round_commands s.rounds c.loop-round.round [] c.requires.balanced low
 
 pub loop-round-preserved : goal.loop-round-preserved
 loop-round-preserved c =
@@ -26,8 +27,9 @@ loop-round-preserved c =
     let low = rw c.rounds-round-end.ensures at c.loop-round-test.true in
     let more : take (i + 1) (commands_of s) ≡ before ++ threads ∷ [] = take_mapped round_commands s.rounds i [] low in
     let x : RoundRuns answers c.run_threads.new.answers c.loop-round.heap c.run_threads.new.heap (value_at c.loop-round.values) (value_at c.run_threads.new.values) threads =
-    c.in_ok-run_threads.ensures answers c.in_ok-add_round.ensures.added in
+    c.in_ok-run_threads.ensures.runs answers c.in_ok-add_round.ensures.added in
     record {
+      free = c.in_ok-run_threads.ensures.free;
       fit = subst (λ (ts : List (List (List Command))). Fit ts c.run_threads.new.answers) (sym more)
           (subst (λ (bs : List (List (List Reply))). Fit (before ++ threads ∷ []) bs) (sym x.answers_are) (fit_round before answers threads x.last c.loop-round.invariant.fit x.fit));
       runs =

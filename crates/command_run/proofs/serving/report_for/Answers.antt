@@ -2,11 +2,7 @@ use Rattle.std.proofs.Common.{subst}
 use Rattle.heap_model.specs.declared.Limits.{Limits}
 use Rattle.command_run.specs.Alone.{IsOutcome}
 use Rattle.command_run.proofs.OutcomeLemmas.{reported}
-use Rattle.command_run.proofs.ServedLemmas.{fit_served}
 use Rattle.command_run.proofs.serving.report_for.Goals as goal
-
-pub serve_script-requires-clause-served : goal.serve_script-requires-clause-served
-serve_script-requires-clause-served c = fit_served c.args.script.now c.requires.fit
 
 pub returns : goal.returns
 returns c =

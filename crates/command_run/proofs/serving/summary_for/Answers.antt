@@ -1,20 +1,20 @@
 use Rattle.std.proofs.Common.{subst, sym}
+use Rattle.std.specs.List.{AllByRecursion}
+use Rattle.script_laws.specs.Printable.{AreBalanced}
 use Rattle.heap_model.specs.declared.Limits.{Limits}
 use Rattle.script_text.specs.Generator.{generated}
 use Rattle.script_text.specs.Scripts.{commands_of}
 use Rattle.script_text.specs.ThreadLines.{ScriptLines}
 use Rattle.report_text.specs.Text.{bytes_of}
 use Rattle.command_run.specs.Alone.{IsOutcome, IsSummaryOf}
-use Rattle.command_run.specs.Commands.{in_rounds}
-use Rattle.command_run.specs.Running.{AreServed}
-use Rattle.command_run.proofs.DrawnLemmas.{drawn_served}
+use Rattle.command_run.proofs.DrawnLemmas.{drawn_balanced}
 use Rattle.command_run.proofs.OutcomeLemmas.{summed}
 use Rattle.command_run.proofs.serving.summary_for.Goals as goal
 
-pub serve_script-requires-clause-served : goal.serve_script-requires-clause-served
-serve_script-requires-clause-served c =
+pub serve_script-requires-clause-balanced : goal.serve_script-requires-clause-balanced
+serve_script-requires-clause-balanced c =
     let setting = c.args.setting.now in
-    subst (λ (s : ScriptLines). AreServed (in_rounds (commands_of s))) (sym c.in_ok-script.ensures) (drawn_served setting.count setting.seed)
+    subst (λ (s : ScriptLines). AllByRecursion AreBalanced (commands_of s)) (sym c.in_ok-script.ensures) (drawn_balanced setting.count setting.seed)
 
 pub returns : goal.returns
 returns c =

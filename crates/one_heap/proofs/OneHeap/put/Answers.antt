@@ -1,4 +1,4 @@
-use Rattle.std.proofs.Common.{◌≡◌, Err, sym, ap, subst, ◌∙◌}
+use Rattle.std.proofs.Common.{◌≡◌, [], ◌∷◌, Err, refl, sym, ap, subst, ◌∙◌}
 use Rattle.heap_model.specs.declared.Call.TheVariants as calls
 use Rattle.heap_model.specs.Shape.{Replied}
 use Rattle.address_calls.specs.Answers.{MayGuard}
@@ -12,10 +12,10 @@ pub unreachable-requires : goal.unreachable-requires
 unreachable-requires c =
     let i = c.self.inside in
     not_met (MayGuard c.self.inside.heap.opening.limits c.args.addr) i.heap i.root i.caller c.put_now.new.c c.self.invariant (calls.Put c.args.addr c.args.index c.args.value) (put_answer c.put_now.result) c.in-Err-Busy.field-0-0
-    c.put_now.ensures.ends (ap put_answer (c.in-Err-Busy.is ∙ ap Err c.in-Err-Busy.field-0-is)) tt
+    c.put_now.ensures.ends (ap put_answer (c.in-Err-Busy.is ∙ ap Err c.in-Err-Busy.field-0-is))
 
-pub returns : goal.returns
-returns c =
+pub returns-clause-serves : goal.returns-clause-serves
+returns-clause-serves c =
     let i = c.self.inside in
     let d = c.put_now.new.c in
     let reply = c.match-put_now.result in
@@ -25,5 +25,8 @@ returns c =
       | in-Err-NotLive w ↦ ap put_answer (w.in-Err-NotLive.is ∙ ap Err w.in-Err-NotLive.field-0-is) ∙ ap Replied (sym w.result-is)
       | in-Err-Past w ↦ ap put_answer (w.in-Err-Past.is ∙ ap Err w.in-Err-Past.field-0-is) ∙ ap Replied (sym w.result-is)
     ] in
-    subst (λ (old : LoneHeap). Serves old (seen_by i.heap d) (calls.Put c.args.addr c.args.index c.args.value) reply) c.self.view_is
-    (served (MayGuard c.self.inside.heap.opening.limits c.args.addr) i.heap i.root i.caller d c.self.invariant (calls.Put c.args.addr c.args.index c.args.value) (put_answer c.put_now.result) reply c.put_now.ensures.ends same)
+    subst (λ (old : LoneHeap). Serves old (seen_by i.heap d) (calls.Put c.args.addr c.args.index c.args.value) (reply ∷ [])) c.self.view_is
+    (served (MayGuard c.self.inside.heap.opening.limits c.args.addr) i.heap i.root i.caller d c.self.invariant (calls.Put c.args.addr c.args.index c.args.value) (put_answer c.put_now.result) reply c.put_now.ensures.ends same (λ One xs one. (reply, refl, one)) refl)
+
+pub returns-clause-depth : goal.returns-clause-depth
+returns-clause-depth c = (returns-clause-serves c).depth

@@ -1,4 +1,4 @@
-use Rattle.std.proofs.Common.{◌≡◌, Err, sym, ap, subst, ◌∙◌}
+use Rattle.std.proofs.Common.{◌≡◌, [], ◌∷◌, Err, refl, sym, ap, subst, ◌∙◌}
 use Rattle.heap_model.specs.declared.Call.TheVariants as calls
 use Rattle.heap_model.specs.Shape.{Replied}
 use Rattle.heap_now.specs.Reallocs.{MayTry}
@@ -12,10 +12,10 @@ pub unreachable-requires : goal.unreachable-requires
 unreachable-requires c =
     let i = c.self.inside in
     not_met (MayTry c.self.inside.heap.opening.limits c.args.addr c.args.n) i.heap i.root i.caller c.realloc_now.new.c c.self.invariant (calls.Realloc c.args.addr c.args.n c.args.flags) (realloc_answer c.realloc_now.result) c.in-Err-Busy.field-0-0
-    c.realloc_now.ensures.ends (ap realloc_answer (c.in-Err-Busy.is ∙ ap Err c.in-Err-Busy.field-0-is)) tt
+    c.realloc_now.ensures.ends (ap realloc_answer (c.in-Err-Busy.is ∙ ap Err c.in-Err-Busy.field-0-is))
 
-pub returns : goal.returns
-returns c =
+pub returns-clause-serves : goal.returns-clause-serves
+returns-clause-serves c =
     let i = c.self.inside in
     let d = c.realloc_now.new.c in
     let reply = c.match-realloc_now.result in
@@ -26,5 +26,8 @@ returns c =
       | in-Err-NoFit w ↦ ap realloc_answer (w.in-Err-NoFit.is ∙ ap Err w.in-Err-NoFit.field-0-is) ∙ ap Replied (sym w.result-is)
       | in-Err-NoRoomInPlace w ↦ ap realloc_answer (w.in-Err-NoRoomInPlace.is ∙ ap Err w.in-Err-NoRoomInPlace.field-0-is) ∙ ap Replied (sym w.result-is)
     ] in
-    subst (λ (old : LoneHeap). Serves old (seen_by i.heap d) (calls.Realloc c.args.addr c.args.n c.args.flags) reply) c.self.view_is
-    (served (MayTry c.self.inside.heap.opening.limits c.args.addr c.args.n) i.heap i.root i.caller d c.self.invariant (calls.Realloc c.args.addr c.args.n c.args.flags) (realloc_answer c.realloc_now.result) reply c.realloc_now.ensures.ends same)
+    subst (λ (old : LoneHeap). Serves old (seen_by i.heap d) (calls.Realloc c.args.addr c.args.n c.args.flags) (reply ∷ [])) c.self.view_is
+    (served (MayTry c.self.inside.heap.opening.limits c.args.addr c.args.n) i.heap i.root i.caller d c.self.invariant (calls.Realloc c.args.addr c.args.n c.args.flags) (realloc_answer c.realloc_now.result) reply c.realloc_now.ensures.ends same (λ One xs one. (reply, refl, one)) refl)
+
+pub returns-clause-depth : goal.returns-clause-depth
+returns-clause-depth c = (returns-clause-serves c).depth
