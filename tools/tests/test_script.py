@@ -75,7 +75,7 @@ class Advice(unittest.TestCase):
     def test_causes_in_words(self):
         for text, parts in [
             ('alloc x', ['line 1: alloc x', 'needs 2 fields', 'alloc NAME SIZE']), ('alloc x 0x10', ['write 16']), ('alloc x -1', ['no negative']),
-            ('alloc 9 1', ['@9']), ('alloc @8 1', ['is an address']), ('lock', ['the end of the text', '1 deep']), ('realloc x 1\ncompact', ['line 2: compact', 'does not run it yet']),
+            ('alloc 9 1', ['@9']), ('alloc @8 1', ['is an address']), ('lock', ['the end of the text', '1 deep']),
             ('thread\nthread', ['line 2: thread', 'one caller']),
         ]:
             fault = advice.script_fault(text.encode())
