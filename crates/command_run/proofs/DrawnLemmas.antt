@@ -1,12 +1,12 @@
 -- The commands of a script that is drawn leave the heap lock alone.
-use Rattle.std.proofs.Common.{◌≡◌, ℕ, zero, suc, ◌==◌, Bool, true, false, List, [], ◌∷◌, ◌++◌, map, refl}
+use Rattle.std.proofs.Common.{ℕ, zero, suc, ◌==◌, Bool, true, false, List, [], ◌∷◌, ◌++◌, map, refl}
 use Rattle.std.specs.Prelude.{nat_lt, if◌then◌else◌}
 use Rattle.std.specs.List.{AllByRecursion}
 use Rattle.script_text.specs.declared.commands.Command.{Command}
 use Rattle.script_text.specs.declared.commands.Command.TheVariants as commands
 use Rattle.script_text.specs.declared.commands.CommandLine.{CommandLine}
 use Rattle.script_text.specs.declared.commands.Target.TheVariants as targets
-use Rattle.script_text.specs.Generator.{name_draw, value_draw, size_of, on_held, command_on, is_held, name_of, choice_of, drawn, numbered, without_line, command_lines, names_drawn, generated}
+use Rattle.script_text.specs.Generator.{name_draw, value_draw, size_of, command_on, is_held, name_of, choice_of, drawn, numbered, without_line, command_lines, names_drawn, generated}
 use Rattle.script_text.specs.Scripts.{command_of, commands_of}
 use Rattle.script_laws.specs.Printable.{IsBalanced, AreBalanced}
 

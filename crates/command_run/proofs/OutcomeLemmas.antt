@@ -1,8 +1,7 @@
 -- On what is written of a script that was run.
-use Rattle.std.proofs.Common.{◌≡◌, ℕ, List, Result, Ok, Err, IfOk, ap, ◌∙◌}
+use Rattle.std.proofs.Common.{◌≡◌, List, Result, Ok, Err, IfOk, ap, ◌∙◌}
 use Rattle.heap_model.specs.declared.OutOfMemory.{OutOfMemory}
 use Rattle.heap_model.specs.declared.Reply.{Reply}
-use Rattle.heap_model.specs.State.{live}
 use Rattle.heap_model.specs.Layout.{PageRange, page_ranges_of}
 use Rattle.layout_decode.specs.Decode.{decode}
 use Rattle.script_text.specs.Scripts.{commands_of}

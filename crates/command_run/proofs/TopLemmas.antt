@@ -1,5 +1,5 @@
 -- Runs in all modes.
-use Rattle.std.proofs.Common.{◌≡◌, ◌≢◌, ◌⊎◌, ℕ, ◌<◌, Bool, true, List, codes, Option, Some, None, Result, Ok, Err, IfOk, IfSome, IfNone, refl, ap, sym, subst, ◌∙◌, arith, inl, inr}
+use Rattle.std.proofs.Common.{◌≡◌, ◌⊎◌, ℕ, ◌<◌, Bool, true, List, codes, Option, Some, None, Result, Ok, Err, IfOk, IfSome, IfNone, refl, ap, sym, subst, ◌∙◌, arith, inl, inr}
 use Rattle.std.specs.Io.KnownBytes.{Appends, Keeps}
 use Rattle.outside_io.specs.Faults.{Stands}
 use Rattle.heap_model.specs.declared.OutOfMemory.{OutOfMemory}
@@ -11,7 +11,7 @@ use Rattle.run_ending.specs.declared.ending.Due.{Due}
 use Rattle.run_ending.specs.declared.ending.Due.TheVariants as dues
 use Rattle.run_ending.specs.Ending.{ReadsFew, OneOf, status_due, text_due}
 use Rattle.run_ending.proofs.Endings as endings
-use Rattle.run_ending.proofs.Endings.{Whole, none_read}
+use Rattle.run_ending.proofs.Endings.{none_read}
 use Rattle.mode_run.specs.Due.{AreForThreads, IsDueRun, EndsRun}
 use Rattle.mode_run.proofs.Ends as threads
 use Rattle.command_run.specs.Words.{AreText, Sets, IsAlone, SetsAlone}

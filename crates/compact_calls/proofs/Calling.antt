@@ -1,5 +1,5 @@
 -- The parts of a compaction, put together.
-use Rattle.std.proofs.Common.{◌≡◌, ◌≢◌, ℕ, ◌==◌, true, false, not, cond, ◌&&◌, ◌||◌, List, [], ◌∷◌, ◌++◌, length, Some, refl, sym, ap, ◌∙◌, subst, arith, append_assoc}
+use Rattle.std.proofs.Common.{◌≡◌, ◌≢◌, ℕ, ◌==◌, true, false, not, cond, ◌||◌, List, [], ◌∷◌, ◌++◌, length, refl, sym, ap, ◌∙◌, subst, arith, append_assoc}
 use Rattle.std.specs.Prelude.{Result, Ok, Err, OnOk, OnErr}
 use Rattle.std.proofs.lemmas.List.{append-nil}
 use Rattle.std.proofs.lemmas.Bool.{ne_eqb}
@@ -13,8 +13,7 @@ use Rattle.heap_model.specs.declared.LockNo.TheVariants as lock_nos
 use Rattle.heap_model.specs.declared.What.{What}
 use Rattle.heap_model.specs.declared.What.TheVariants as whats
 use Rattle.heap_model.specs.State.{Area, Span, Place}
-use Rattle.heap_model.specs.Legal.{are_used, is_compact, after}
-use Rattle.heap_model.specs.Stay.{for_some}
+use Rattle.heap_model.specs.Legal.{are_used, after}
 use Rattle.heap_model.specs.Agreement.{SameHeap}
 use Rattle.heap_model.specs.Shape.{WasBusy, HasActs, IsCompact, loose_pages, shape_of, are_spans_first, under_lock}
 use Rattle.backend_fit.specs.Kept.{Kept, area_of}
@@ -118,26 +117,25 @@ goes_over : (b e : Token) (d f : ℕ) (added : List Act) → e.depth ≡ d → G
 goes_over b e d f added h g = record { table = g.table; opening = g.opening; number = g.number; depth = h; roll = g.roll; seen = g.seen; own = g.own }
 
 -- the call is the compaction that took the lock, so no other begins
-begins_none : (c : Token) → c.call ≡ Some calls.Compact → c.locked ≡ true → c.pending ≡ false → begins_unlock c ≡ []
-begins_none c e l p = (λ i. cond (p i || (for_some (e i) is_compact && l i)) [] (entry c.number (acts.Begin calls.Unlock) ∷ []))
+begins_none : (c : Token) → c.pending ≡ false → begins_unlock true c ≡ []
+begins_none c p = (λ i. cond (p i || true) [] (entry c.number (acts.Begin calls.Unlock) ∷ []))
 
-begun_none : (c : Token) → c.call ≡ Some calls.Compact → c.locked ≡ true → c.pending ≡ false → begun_unlock c ≡ c
-begun_none c e l p = (λ i. cond (p i || (for_some (e i) is_compact && l i)) c (with_prepared c (acts.Begin calls.Unlock)))
+begun_none : (c : Token) → c.pending ≡ false → begun_unlock true c ≡ c
+begun_none c p = (λ i. cond (p i || true) c (with_prepared c (acts.Begin calls.Unlock)))
 
-unlock_is : {A B : Type 0} (d e : Token) (r : Result A B) → d.depth ≡ 1 → OnOk r (IsShallower d e) → OnErr r ((d.depth ≡ 0) × (e ≡ d)) → HasUnlocked d e (stance (begun_unlock d)) (begins_unlock d ++ entry d.number acts.Unlock ∷ [])
+unlock_is : {A B : Type 0} (d e : Token) (r : Result A B) → d.depth ≡ 1 → OnOk r (IsShallower true d e) → OnErr r ((d.depth ≡ 0) × (e ≡ d)) → HasUnlocked d e (stance (begun_unlock true d)) (begins_unlock true d ++ entry d.number acts.Unlock ∷ [])
 unlock_is d e (Ok u) one x y = x.last one
 unlock_is d e (Err n) one x y = absurd (let z : d.depth ≡ 0 = y.0 in let none : ⊥ = omega (arith, one, z) in none)
 
 pub finished : {A B : Type 0} (b d g e : Token) (k : Kept) (number : ℕ) (r : Result A B) → IsOwning b calls.Compact [] → b.locked ≡ true → b.depth ≡ 1 → HasCleaned b d k number → IsStanding d
-    → HasGiven d g whats.Back (entry d.number (acts.GiveLock whats.Back) ∷ []) → IsStanding g → OnOk r (IsShallower g e) → OnErr r ((g.depth ≡ 0) × (e ≡ g)) → HasFinished b e number
+    → HasGiven d g whats.Back (entry d.number (acts.GiveLock whats.Back) ∷ []) → IsStanding g → OnOk r (IsShallower true g e) → OnErr r ((g.depth ≡ 0) × (e ≡ g)) → HasFinished b e number
 finished b d g e k number r v locked one x std given stg ok err =
     let gave = did_give d g calls.Compact whats.Back [] x.did.owning given in
     let w = gave.owning in
     let depth : g.depth ≡ 1 = gave.goes.depth ∙ (x.did.goes.depth ∙ one) in
-    let lock : g.locked ≡ true = gave.locked ∙ (x.did.locked ∙ locked) in
     let u = unlock_is g e r depth ok err in
-    let s : Stands e (record (stance g) { depth = 0 }) = subst (λ (c : Token). Stands e (record (stance c) { depth = 0 })) (begun_none g w.call_is lock w.pending) u.stands in
-    let does : Does g e (entry g.number acts.Unlock ∷ []) = subst (λ (l : List Entry). Does g e (l ++ entry g.number acts.Unlock ∷ [])) (begins_none g w.call_is lock w.pending) u.runs.does in
+    let s : Stands e (record (stance g) { depth = 0 }) = subst (λ (c : Token). Stands e (record (stance c) { depth = 0 })) (begun_none g w.pending) u.stands in
+    let does : Does g e (entry g.number acts.Unlock ∷ []) = subst (λ (l : List Entry). Does g e (l ++ entry g.number acts.Unlock ∷ [])) (begins_none g w.pending) u.runs.does in
     let before = goes_then b d g (cleaning x.heads x.pages) (acts.GiveLock whats.Back ∷ []) x.did.goes gave.goes in
     let last : GoesOn g (with_depth e b.depth) (acts.Unlock ∷ []) = goes_does g (with_depth e b.depth) (acts.Unlock ∷ []) (does_at g e b.depth (entry g.number acts.Unlock ∷ []) does) (sym before.depth) in
     record {

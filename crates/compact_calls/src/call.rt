@@ -53,7 +53,7 @@ fn finish(heap: &Heap<State>, c: &mut Caller<State>) -> u64
     c.check();
     give_back(heap, c, back);
     c.check();
-    let _given = unlock_gate(heap, c);
+    let _given = unlock_gate(heap, c, true);
     number
 }
 

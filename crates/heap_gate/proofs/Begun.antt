@@ -18,7 +18,7 @@ use Rattle.heap_model.specs.Agreement.{AgreesFor, revealed}
 use Rattle.claim_rule.specs.Entries.{entry}
 use Rattle.claim_rule.proofs.Lists.{after-append}
 use Rattle.heap_gate.specs.Token.{Token, IsEven, now}
-use Rattle.heap_gate.specs.Calls.{Does, Runs, Reveals, stance, with_prepared, begun_with, begins, begun_unlock, begins_unlock, is_compacting, HasEntered, HasTurnedBack, HasLocked, HasMissedGate, HasUnlocked}
+use Rattle.heap_gate.specs.Calls.{Does, Runs, Reveals, stance, with_prepared, begun_with, begins, begun_unlock, begins_unlock, HasEntered, HasTurnedBack, HasLocked, HasMissedGate, HasUnlocked}
 
 pub on_ok : {A B : Type 0} (r : Result A B) (X Y : Type 0) → (X → Y) → OnOk r X → OnOk r Y
 on_ok (Ok a) X Y f x = f x
@@ -132,8 +132,8 @@ module _ (c new : Token) (call : Call) where
       go true x = x
       go false x = record { gate = x.gate; word_is = x.word_is; runs = runs_begun false (entry c.number (acts.Blocked whats.Gate word) ∷ []) x.runs; stands = x.stands }
 
-pub unlocked_begun : (c new : Token) (b : Bool) → (c.pending || is_compacting c) ≡ b → HasUnlocked (begun_unlock c) new (stance (begun_unlock c)) (entry (begun_unlock c).number acts.Unlock ∷ []) → HasUnlocked c new (stance (begun_unlock c)) (begins_unlock c ++ entry c.number acts.Unlock ∷ [])
-unlocked_begun c new b e = subst (λ (y : Bool). HasUnlocked (begun_so_far c new calls.Unlock y) new (stance (begun_so_far c new calls.Unlock y)) (entry (begun_so_far c new calls.Unlock y).number acts.Unlock ∷ []) → HasUnlocked c new (stance (begun_so_far c new calls.Unlock y)) (with_begin c new calls.Unlock y ++ entry c.number acts.Unlock ∷ [])) (sym e) (go b)
+pub unlocked_begun : (within : Bool) (c new : Token) (b : Bool) → (c.pending || within) ≡ b → HasUnlocked (begun_unlock within c) new (stance (begun_unlock within c)) (entry (begun_unlock within c).number acts.Unlock ∷ []) → HasUnlocked c new (stance (begun_unlock within c)) (begins_unlock within c ++ entry c.number acts.Unlock ∷ [])
+unlocked_begun within c new b e = subst (λ (y : Bool). HasUnlocked (begun_so_far c new calls.Unlock y) new (stance (begun_so_far c new calls.Unlock y)) (entry (begun_so_far c new calls.Unlock y).number acts.Unlock ∷ []) → HasUnlocked c new (stance (begun_so_far c new calls.Unlock y)) (with_begin c new calls.Unlock y ++ entry c.number acts.Unlock ∷ [])) (sym e) (go b)
   where
     go : (b : Bool) → HasUnlocked (begun_so_far c new calls.Unlock b) new (stance (begun_so_far c new calls.Unlock b)) (entry (begun_so_far c new calls.Unlock b).number acts.Unlock ∷ []) → HasUnlocked c new (stance (begun_so_far c new calls.Unlock b)) (with_begin c new calls.Unlock b ++ entry c.number acts.Unlock ∷ [])
     go true x = x

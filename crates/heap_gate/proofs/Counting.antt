@@ -13,7 +13,7 @@ use Rattle.heap_model.specs.History.{own}
 use Rattle.claim_rule.specs.Entries.{entry}
 use Rattle.claim_rule.proofs.Lists.{prefix_self, prefix_trans}
 use Rattle.heap_gate.specs.Token.{HeapToken, Token}
-use Rattle.heap_gate.specs.Calls.{Does, Stance, stance, Stands, with_prepared, begun_with, IsRefusedLock, HasEntered, HasTurnedBack, HasLeft, HasUnlocked, IsDeeper, IsShallower, begins, is_compacting}
+use Rattle.heap_gate.specs.Calls.{Does, Stance, stance, Stands, with_prepared, begun_with, IsRefusedLock, HasEntered, HasTurnedBack, HasLeft, HasUnlocked, IsDeeper, IsShallower, begins}
 use Rattle.heap_gate.specs.Counts.{enters, locks, counted, IsSettled, GoesOn}
 
 pub counted-append : (f : Act → ℕ) (xs ys : List Entry) → counted f (xs ++ ys) ≡ counted f xs + counted f ys
@@ -146,8 +146,8 @@ module _ (h : HeapToken) (old new : Token) (i : Bool) (k : IsSettled h old i) wh
         goes_on old new es k.prepared d,
       )
 
-  pub has_given : i ≡ false → (d : ℕ) → old.depth ≡ d + 1 → IsShallower old new → IsSettled h new false × (new.depth ≡ d) × GoesOn old new 0 0
-  has_given out zero e x = of_begins (old.pending || is_compacting old) (x.last e)
+  pub has_given : i ≡ false → (d : ℕ) → old.depth ≡ d + 1 → {within : Bool} → IsShallower within old new → IsSettled h new false × (new.depth ≡ d) × GoesOn old new 0 0
+  has_given out zero e {within} x = of_begins (old.pending || within) (x.last e)
     where
       of_begins : (b : Bool) → HasUnlocked old new (stance (cond b old (with_prepared old (acts.Begin calls.Unlock)))) (cond b [] (entry old.number (acts.Begin calls.Unlock) ∷ []) ++ entry old.number acts.Unlock ∷ []) → IsSettled h new false × (new.depth ≡ 0) × GoesOn old new 0 0
       of_begins true u =
@@ -157,6 +157,6 @@ module _ (h : HeapToken) (old new : Token) (i : Bool) (k : IsSettled h old i) wh
           let es : List Entry = entry old.number (acts.Begin calls.Unlock) ∷ entry old.number acts.Unlock ∷ [] in
           let r = rested calls.Unlock false in
           (settled es false (record (stance (with_prepared old (acts.Begin calls.Unlock))) { depth = 0 }) (record { inside = k.inside_is ∙ out; out = r.out; free = r.free; searched = r.searched; drawn = r.drawn }) u.runs.does u.stands, u.stands.depth, goes_on old new es k.prepared u.runs.does)
-  has_given out (suc d) e x =
+  has_given out (suc d) e {within} x =
       let a = x.again (λ z. let no : ⊥ = omega arith in no) in
       subst (λ (t : Token). IsSettled h t false × (t.depth ≡ suc d) × GoesOn old t 0 0) (sym a) (still out (old.depth - 1), omega arith, same_list (old.depth - 1))

@@ -1,5 +1,5 @@
 -- What each call of a caller does.
-use Rattle.std.specs.Prelude.{◌≡◌, ◌≢◌, ℕ, ◌+◌, ◌/◌, ◌-◌, ◌<◌, ◌==◌, Bool, true, false, not, ◌&&◌, ◌||◌, cond, List, [], ◌∷◌, ◌++◌, Option, Some}
+use Rattle.std.specs.Prelude.{◌≡◌, ◌≢◌, ℕ, ◌+◌, ◌/◌, ◌-◌, ◌<◌, ◌==◌, Bool, true, false, not, ◌||◌, cond, List, [], ◌∷◌, ◌++◌, Option, Some}
 use mathlib.Core.List.{IsPrefix}
 use Rattle.heap_model.specs.declared.Act.{Act}
 use Rattle.heap_model.specs.declared.Act.TheVariants as acts
@@ -13,9 +13,8 @@ use Rattle.heap_model.specs.declared.What.TheVariants as whats
 use Rattle.heap_model.specs.Layers.{LayerState}
 use Rattle.heap_model.specs.State.{hands, holds}
 use Rattle.heap_model.specs.Ranges.{vs_spans}
-use Rattle.heap_model.specs.Stay.{for_some}
 use Rattle.heap_model.specs.CallState.{Configuration, Nothing}
-use Rattle.heap_model.specs.Legal.{is_compact, leaves_whole}
+use Rattle.heap_model.specs.Legal.{leaves_whole}
 use Rattle.heap_model.specs.History.{configuration_after, own}
 use Rattle.heap_model.specs.Agreement.{AgreesFor, revealed}
 use Rattle.claim_rule.specs.declared.views.Owed.{Owed}
@@ -183,16 +182,12 @@ begins c call = cond c.pending [] (entry c.number (acts.Begin call) ∷ [])
 abbrev pub begun_with : Token → Call → Token
 begun_with c call = cond c.pending c (with_prepared c (acts.Begin call))
 
--- the call is a compaction that has taken the heap lock itself
-abbrev pub is_compacting : Token → Bool
-is_compacting c = for_some c.call is_compact && c.locked
+-- .. and the Begin to give the heap lock back, but within a call that took it
+abbrev pub begins_unlock : Bool → Token → List Entry
+begins_unlock within c = cond (c.pending || within) [] (entry c.number (acts.Begin calls.Unlock) ∷ [])
 
--- .. and the Begin to give the heap lock back, where no compaction took it
-abbrev pub begins_unlock : Token → List Entry
-begins_unlock c = cond (c.pending || is_compacting c) [] (entry c.number (acts.Begin calls.Unlock) ∷ [])
-
-abbrev pub begun_unlock : Token → Token
-begun_unlock c = cond (c.pending || is_compacting c) c (with_prepared c (acts.Begin calls.Unlock))
+abbrev pub begun_unlock : Bool → Token → Token
+begun_unlock within c = cond (c.pending || within) c (with_prepared c (acts.Begin calls.Unlock))
 
 -- the gate word names an owner, another than the caller
 abbrev pub NamesAnother : ℕ → ℕ → Type 0
@@ -251,10 +246,10 @@ IsRefusedLock old new lock_nos.Depth = (old.depth ≡ 65535) × (new ≡ old)
 IsRefusedLock old new (lock_nos.Busy b) =
     (old.depth ≡ 0) × HasMissedGate old new (stance (begun_with old calls.Lock)) b.what b.word (begins old calls.Lock ++ entry old.number (acts.Blocked whats.Gate b.word) ∷ [])
 
--- it was given back once: from depth 1 by a step
-pub record IsShallower (old new : Token) : Type 0 where
+-- it was given back once: from depth 1 by a step, which belongs to the call under way where it is within it
+pub record IsShallower (within : Bool) (old new : Token) : Type 0 where
   pub owned : old.depth ≢ 0
-  pub last : old.depth ≡ 1 → HasUnlocked old new (stance (begun_unlock old)) (begins_unlock old ++ entry old.number acts.Unlock ∷ [])
+  pub last : old.depth ≡ 1 → HasUnlocked old new (stance (begun_unlock within old)) (begins_unlock within old ++ entry old.number acts.Unlock ∷ [])
   pub again : old.depth ≢ 1 → new ≡ with_depth old (old.depth - 1)
 
 ---- The locks of the layers

@@ -14,6 +14,7 @@ ghost use Rattle.heap_gate.specs.Calls.{begins, begun_with, stance, may_enter_by
 
 use crate::entries::begin_if_none;
 use crate::heap::Heap;
+use crate::noted::Told;
 use crate::steps::{Prepared, deny_leave_by, enter_as, leave_as};
 use heap_model::{Busy, Call, Stands, What};
 use rand_pcg::Pcg32;
@@ -31,14 +32,14 @@ pub struct Caller<T: Stands> {
     pub slot: u32,
     pub prepared: Prepared,
     pub pending: bool,
-    pub call: Option<Call>,
-    pub fresh: bool,
-    pub locked: bool,
+    pub call: Told<Option<Call>>,
+    pub fresh: Told<bool>,
+    pub locked: Told<bool>,
     pub inside: bool,
     pub depth: u16,
-    pub whole: bool,
-    pub free: bool,
-    pub drawn: bool,
+    pub whole: Told<bool>,
+    pub free: Told<bool>,
+    pub drawn: Told<bool>,
     pub draws: Draws<Pcg32>,
 }
 
@@ -49,9 +50,9 @@ impl<T: Stands> Model for Caller<T> {
 
     ghost Value = { Token };
 
-    ghost view = { λ c. tok c.place.table_id c.place.me record { number = c.number; prepared = c.prepared.items; pending = c.pending; call = c.call; fresh = c.fresh; locked = c.locked; inside = c.inside; depth = c.depth; whole = c.whole; free = c.free; drawn = c.drawn } };
+    ghost view = { λ c. tok c.place.table_id c.place.me record { number = c.number; prepared = c.prepared.items; pending = c.pending; call = c.call.value; fresh = c.fresh.value; locked = c.locked.value; inside = c.inside; depth = c.depth; whole = c.whole.value; free = c.free.value; drawn = c.drawn.value } };
 
-    ghost invariant = { λ c. IsCaller c.place.me (tok c.place.table_id c.place.me record { number = c.number; prepared = c.prepared.items; pending = c.pending; call = c.call; fresh = c.fresh; locked = c.locked; inside = c.inside; depth = c.depth; whole = c.whole; free = c.free; drawn = c.drawn }) c.slot (words_of c.draws) };
+    ghost invariant = { λ c. IsCaller c.place.me (tok c.place.table_id c.place.me record { number = c.number; prepared = c.prepared.items; pending = c.pending; call = c.call.value; fresh = c.fresh.value; locked = c.locked.value; inside = c.inside; depth = c.depth; whole = c.whole.value; free = c.free.value; drawn = c.drawn.value }) c.slot (words_of c.draws) };
 }
 
 impl<T: Stands> Caller<T> {
@@ -102,12 +103,13 @@ impl<T: Stands> Caller<T> {
         ensures count { Always self.old (λ s. ((now s self.old).now.calls self.old.number).searches ≡ self.old.searches) }
         ensures drawn { self.new ≡ record self.old { drawn = true } }
     {
-        self.drawn = true;
+        self.drawn = Told::of(&true);
         self.draws.draw()
     }
 }
 
 // Whether a caller that finds this gate word has entered.
+#[inline(always)]
 fn enters(word: u64, number: u32) -> bool
     ensures { result ≡ may_enter_by word number }
 {
@@ -116,6 +118,7 @@ fn enters(word: u64, number: u32) -> bool
 }
 
 // The step of entering, and the step back where the gate word names another owner.
+#[inline(always)]
 fn pass<T: Stands>(heap: &Heap<T>, c: &mut Caller<T>) -> Result<(), Busy>
     requires table { c.old.table ≡ heap.now.table }
     requires outside { c.old.inside ≡ false }
@@ -129,7 +132,7 @@ fn pass<T: Stands>(heap: &Heap<T>, c: &mut Caller<T>) -> Result<(), Busy>
     let word = enter_as::<T, Brand>(top, &mut c.place, &c.prepared);
     c.prepared.clear();
     c.pending = false;
-    c.fresh = false;
+    c.fresh = Told::of(&false);
     if enters(word, c.number) {
         c.inside = true;
         return Ok(());
@@ -142,6 +145,7 @@ fn pass<T: Stands>(heap: &Heap<T>, c: &mut Caller<T>) -> Result<(), Busy>
 }
 
 /// Enters, or turns back where the gate word names another owner. Where no Begin is prepared, a call named stay begins.
+#[inline(always)]
 pub fn enter_now<T: Stands>(heap: &Heap<T>, c: &mut Caller<T>) -> Result<(), Busy>
     requires table { c.old.table ≡ heap.now.table }
     requires outside { c.old.inside ≡ false }
@@ -157,6 +161,7 @@ pub fn enter_now<T: Stands>(heap: &Heap<T>, c: &mut Caller<T>) -> Result<(), Bus
 
 /// Leaves. Where the call has searched it has drawn, and where it has drawn it has searched, so that the next search finds
 /// the next draw.
+#[inline(always)]
 pub fn leave<T: Stands>(heap: &Heap<T>, c: &mut Caller<T>)
     requires table { c.old.table ≡ heap.now.table }
     requires whole { c.old.whole ≡ true }

@@ -8,11 +8,12 @@ ghost use Rattle.heap_model.specs.declared.LockNo.TheVariants.{Depth};
 ghost use Rattle.heap_model.specs.Legal.{is_lock_or_compact};
 ghost use Rattle.heap_model.specs.Stay.{for_some};
 ghost use Rattle.claim_rule.specs.Entries.{entry};
-ghost use Rattle.heap_gate.specs.Calls.{begins, begun_with, begins_unlock, begun_unlock, is_compacting, stance, HasLocked, HasMissedGate, HasUnlocked, IsDeeper, IsRefusedLock, IsShallower};
+ghost use Rattle.heap_gate.specs.Calls.{begins, begun_with, begins_unlock, begun_unlock, stance, HasLocked, HasMissedGate, HasUnlocked, IsDeeper, IsRefusedLock, IsShallower};
 
 use crate::caller::Caller;
 use crate::entries::{begin, begin_if_none};
 use crate::heap::Heap;
+use crate::noted::Told;
 use crate::steps::{lock_as, unlock_as};
 use heap_model::{Busy, Call, LockNo, NotOwner, Stands, What};
 use std::marker::Brand;
@@ -32,7 +33,7 @@ fn take<T: Stands>(heap: &Heap<T>, c: &mut Caller<T>) -> Result<(), Busy>
     c.prepared.clear();
     c.pending = false;
     if word == 0 {
-        c.locked = true;
+        c.locked = Told::of(&true);
         c.depth = 1;
         return Ok(());
     }
@@ -95,43 +96,40 @@ fn give<T: Stands>(heap: &Heap<T>, c: &mut Caller<T>)
     c.depth = 0;
 }
 
-// Whether the call is a compaction that has taken the heap lock itself.
-fn compacts<T: Stands>(c: &Caller<T>) -> bool
-    ensures { result ≡ is_compacting c.now }
-{
-    matches!(c.call, Some(Call::Compact)) && c.locked
-}
-
-// Prepares the Begin of a call of unlock, where none is pending and no compaction took the lock.
-fn begin_unlock<T: Stands>(c: &mut Caller<T>)
+// Prepares the Begin of a call of unlock, where none is pending and it is not within a call that took the lock.
+fn begin_unlock<T: Stands>(c: &mut Caller<T>, within: bool)
     requires outside { c.old.inside ≡ false }
     requires out { c.old.out ≡ [] }
-    ensures { c.new ≡ begun_unlock c.old }
+    ensures { c.new ≡ begun_unlock within c.old }
 {
-    if !(c.pending || compacts(c)) {
+    if !(c.pending || within) {
         begin(c, Call::Unlock);
     }
 }
 
 // Begins a call of unlock where that is wanted, and gives the heap lock back.
-fn give_last<T: Stands>(heap: &Heap<T>, c: &mut Caller<T>)
+fn give_last<T: Stands>(heap: &Heap<T>, c: &mut Caller<T>, within: bool)
     requires table { c.old.table ≡ heap.now.table }
     requires outside { c.old.inside ≡ false }
     requires out { c.old.out ≡ [] }
     requires owns { c.old.depth ≡ 1 }
-    ensures { HasUnlocked c.old c.new (stance (begun_unlock c.old)) (begins_unlock c.old ++ entry c.old.number Unlock ∷ []) }
+    ensures { HasUnlocked c.old c.new (stance (begun_unlock within c.old)) (begins_unlock within c.old ++ entry c.old.number Unlock ∷ []) }
 {
-    begin_unlock(c);
+    begin_unlock(c, within);
     give(heap, c);
 }
 
 /// Gives the heap lock back as often as it was taken. Only the last time is a step. It begins a call of its own, but where a
-/// Begin is prepared, or the call under way is the compaction that took the lock.
-pub fn unlock_gate<T: Stands>(heap: &Heap<T>, c: &mut Caller<T>) -> Result<(), NotOwner>
+/// Begin is prepared, or it is `within` the call that took the lock, as in a compaction.
+pub fn unlock_gate<T: Stands>(
+    heap: &Heap<T>,
+    c: &mut Caller<T>,
+    within: bool,
+) -> Result<(), NotOwner>
     requires table { c.old.table ≡ heap.now.table }
     requires outside { c.old.inside ≡ false }
     requires out { c.old.out ≡ [] }
-    ensures given { OnOk result (IsShallower c.old c.new) }
+    ensures given { OnOk result (IsShallower within c.old c.new) }
     ensures refused { OnErr result ((c.old.depth ≡ 0) × (c.new ≡ c.old)) }
 {
     if c.depth == 0 {
@@ -141,6 +139,6 @@ pub fn unlock_gate<T: Stands>(heap: &Heap<T>, c: &mut Caller<T>) -> Result<(), N
         c.depth -= 1;
         return Ok(());
     }
-    give_last(heap, c);
+    give_last(heap, c, within);
     Ok(())
 }

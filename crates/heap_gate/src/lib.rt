@@ -22,7 +22,7 @@ pub use entries::{begin, prepare, rest, settle};
 pub use heap::Heap;
 pub use heap_lock::{lock_gate, unlock_gate};
 pub use locks::{give_lock, give_lock_denying, take_lock};
-pub use noted::Noted;
+pub use noted::{Noted, Told};
 pub use root::{Root, close_table, join, make_caller, meet, open};
 pub use steps::{Prepared, Slip};
 

@@ -210,7 +210,7 @@ fn turn_outside(rt: &impl Abort, heap: &Heap<Counter>, c: &mut Caller<Counter>)
 {
     lock_gate(heap, c).expect(rt, "takes the heap lock");
     assert_eq!(rt; turn(heap, c, What::Back, false), Some(1));
-    unlock_gate(heap, c).expect(rt, "gives it back");
+    unlock_gate(heap, c, false).expect(rt, "gives it back");
 }
 
 #[test]

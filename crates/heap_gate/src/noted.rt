@@ -1,4 +1,4 @@
-//! A list that only proofs read. It takes no memory, and its methods do nothing at run time.
+//! A list and a value that only proofs read. They take no memory, and their methods do nothing at run time.
 ghost use Rattle.std.specs.Prelude.{◌≡◌, List, [], ◌∷◌, ◌++◌};
 ghost use Rattle.std.specs.Borrow.{ftrue};
 
@@ -47,5 +47,29 @@ impl<A: Copy> Noted<A> {
         ensures items { self.new.items ≡ self.old.items ++ value ∷ [] }
     {
         *self = self.and(&value);
+    }
+}
+
+/// A value for proofs alone: it has no bytes. A clause reads it as `value`.
+#[derive(Drop)]
+pub struct Told<A> {
+    of: PhantomData<A>,
+    pub ghost value: { A },
+}
+
+impl<A> Model for Told<A> {
+    ghost also_owns = { λ _. ftrue };
+}
+
+// It owns nothing.
+unsafe impl<A: Send> Send for Told<A> {}
+
+impl<A> Told<A> {
+    /// What a value is now.
+    pub fn of(value: &A) -> Told<A>
+        ensures { result.value ≡ value.now }
+    {
+        let _ = value;
+        Told { of: PhantomData }
     }
 }

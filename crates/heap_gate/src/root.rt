@@ -12,7 +12,7 @@ ghost use Rattle.heap_gate.specs.Roots.{AreTheirs, HaveMet, HasJoined, IsAtRest,
 use crate::caller::Caller;
 use crate::closed::{Closed, copied, held};
 use crate::heap::Heap;
-use crate::noted::Noted;
+use crate::noted::{Noted, Told};
 use crate::seats::{agree, count, deal, hear, relayed, take_in, tell};
 use atomic_table::Table;
 use heap_model::{Limits, Opening, OutOfMemory, Stands, Words};
@@ -124,14 +124,14 @@ pub fn make_caller<T: Stands>(
         slot,
         prepared: Noted::new(),
         pending: false,
-        call: None,
-        fresh: false,
-        locked: false,
+        call: Told::of(&None),
+        fresh: Told::of(&false),
+        locked: Told::of(&false),
         inside: false,
         depth: 0,
-        whole: true,
-        free: true,
-        drawn: false,
+        whole: Told::of(&true),
+        free: Told::of(&true),
+        drawn: Told::of(&false),
         draws: Draws::new(Pcg32::new(seed, stream)),
     }
 }

@@ -68,6 +68,7 @@ pub(crate) fn look_as<T: Stands, E: Carried>(
     top.load::<Looks<E>>(place, MADE);
 }
 
+#[inline(always)]
 pub(crate) fn enter_as<T: Stands, E: Carried>(
     top: &Table<T>,
     place: &mut Seating<T>,
@@ -82,6 +83,7 @@ pub(crate) fn enter_as<T: Stands, E: Carried>(
     top.fetch_add::<Enters<E>>(place, GATE, 1)
 }
 
+#[inline(always)]
 pub(crate) fn leave_as<T: Stands, E: Carried>(
     top: &Table<T>,
     place: &mut Seating<T>,

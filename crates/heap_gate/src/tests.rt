@@ -145,7 +145,7 @@ fn unlock<T: Stands>(rt: &impl Abort, heap: &Heap<T>, c: &mut Caller<T>)
     requires owns { 0 < c.old.depth }
     ensures { IsSettled heap.now c.new false × (c.new.depth ≡ c.old.depth - 1) × (c.new.number ≡ c.old.number) }
 {
-    unlock_gate(heap, c).expect(rt, "gives it back");
+    unlock_gate(heap, c, false).expect(rt, "gives it back");
 }
 
 // Has nothing to give back.
@@ -154,7 +154,7 @@ fn own_nothing<T: Stands>(rt: &impl Abort, heap: &Heap<T>, c: &mut Caller<T>)
     requires free { c.old.depth ≡ 0 }
     ensures { c.new ≡ c.old }
 {
-    let Err(NotOwner) = unlock_gate(heap, c) else {
+    let Err(NotOwner) = unlock_gate(heap, c, false) else {
         panic!(rt; "it owned the lock")
     };
 }
@@ -283,7 +283,7 @@ fn hold<T: Stands>(heap: &Heap<T>, c: &mut Caller<T>) -> bool
     ensures goes { GoesOn c.old c.new 0 (count result) }
 {
     match lock_gate(heap, c) {
-        Ok(()) => match unlock_gate(heap, c) {
+        Ok(()) => match unlock_gate(heap, c, false) {
             Ok(()) => true,
             Err(NotOwner) => unreachable!(),
         },

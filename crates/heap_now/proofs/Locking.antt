@@ -1,5 +1,5 @@
 -- The heap lock, from what a caller does at the gate.
-use Rattle.std.proofs.Common.{◌≡◌, ◌≢◌, ℕ, zero, suc, ◌+◌, ◌-◌, Bool, true, cond, List, [], ◌∷◌, ◌++◌, refl, sym, ap, ◌∙◌, subst, arith}
+use Rattle.std.proofs.Common.{◌≡◌, ◌≢◌, ℕ, zero, suc, ◌+◌, ◌-◌, Bool, true, false, cond, List, [], ◌∷◌, ◌++◌, refl, sym, ap, ◌∙◌, subst, arith}
 use Rattle.std.specs.Prelude.{Result, Ok, Err, OnOk, OnErr, IfErr}
 use Rattle.heap_model.specs.declared.Act.{Act}
 use Rattle.heap_model.specs.declared.Act.TheVariants as acts
@@ -110,7 +110,7 @@ module _ (a b : Token) (r : IsReady a) where
   ---- Given back
 
   -- with its Begin prepared
-  pub unlocked_last : a.depth ≡ 1 → IsShallower (with_prepared a (acts.Begin calls.Unlock)) b → IsLockedLess a b
+  pub unlocked_last : a.depth ≡ 1 → IsShallower false (with_prepared a (acts.Begin calls.Unlock)) b → IsLockedLess a b
   unlocked_last e x =
       let u = x.last e in
       let t = with_prepared a (acts.Begin calls.Unlock) in
@@ -138,7 +138,7 @@ module _ (a b : Token) (r : IsReady a) where
         ready = rb;
       }
 
-  pub unlocked_more : a.depth ≢ 1 → IsShallower a b → IsLockedLess a b
+  pub unlocked_more : a.depth ≢ 1 → IsShallower false a b → IsLockedLess a b
   unlocked_more more x =
       let y = x.again more in
       record {
@@ -151,7 +151,7 @@ module _ (a b : Token) (r : IsReady a) where
         ready = subst IsReady (sym y) (ready_with a (a.depth - 1) r);
       }
 
-  pub given_last : {A B : Type 0} (q : Result A B) → a.depth ≡ 1 → OnOk q (IsShallower (with_prepared a (acts.Begin calls.Unlock)) b) → OnErr q (((with_prepared a (acts.Begin calls.Unlock)).depth ≡ 0) × (b ≡ with_prepared a (acts.Begin calls.Unlock))) → IsLockedLess a b
+  pub given_last : {A B : Type 0} (q : Result A B) → a.depth ≡ 1 → OnOk q (IsShallower false (with_prepared a (acts.Begin calls.Unlock)) b) → OnErr q (((with_prepared a (acts.Begin calls.Unlock)).depth ≡ 0) × (b ≡ with_prepared a (acts.Begin calls.Unlock))) → IsLockedLess a b
   given_last (Ok u) e x y = unlocked_last e x
   given_last (Err n) e x y = absurd (let z : a.depth ≡ 0 = y.0 in let no : ⊥ = omega (arith, e, z) in no)
 

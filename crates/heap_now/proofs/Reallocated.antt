@@ -1,9 +1,8 @@
 -- A reallocation, from what the part of it does that works inside.
-use Rattle.std.proofs.Common.{◌≡◌, ◌≢◌, ◌⊎◌, ℕ, ◌+◌, Bool, true, false, List, [], ◌∷◌, ◌++◌, refl, sym, ap, ◌∙◌, subst, append_assoc, inl, inr}
+use Rattle.std.proofs.Common.{◌≡◌, ◌≢◌, ℕ, ◌+◌, Bool, false, List, [], ◌∷◌, ◌++◌, refl, sym, ap, ◌∙◌, subst, inl, inr}
 use Rattle.std.specs.Prelude.{Result, Ok, Err, IfOk}
 use Rattle.std.specs.List.{list_any}
 use Rattle.std.proofs.lemmas.List.{append-nil}
-use mathlib.Core.List.{IsPrefix}
 use Rattle.heap_model.specs.declared.Act.{Act}
 use Rattle.heap_model.specs.declared.Act.TheVariants as acts
 use Rattle.heap_model.specs.declared.Busy.{Busy}
@@ -20,27 +19,26 @@ use Rattle.heap_model.specs.declared.What.{What}
 use Rattle.heap_model.specs.declared.What.TheVariants as whats
 use Rattle.heap_model.specs.State.{Setting, State}
 use Rattle.heap_model.specs.CallState.{Configuration}
-use Rattle.heap_model.specs.History.{configuration_of, configuration_after, first_configuration}
-use Rattle.heap_model.specs.Legal.{is_begin}
+use Rattle.heap_model.specs.History.{configuration_of, first_configuration}
 use Rattle.heap_model.specs.Moments.{Moment, moments, acts_of, Before}
 use Rattle.heap_model.specs.Served.{IsOneCall, IsAnswered}
 use Rattle.heap_model.specs.Shape.{Answer, Replied, WasBusy, HasShape, shape_of, shown, is_resize, is_take, is_sized, is_no_fit, begins_move, IsResized, IsGivenAgain, IsMoved, HasNoRange, HasNoRoom, Reallocates}
 use Rattle.heap_model.proofs.Moments.{moments-append}
-use Rattle.claim_rule.specs.Entries.{IsSettingOf, IsLegalWith}
+use Rattle.claim_rule.specs.Entries.{IsSettingOf}
 use Rattle.claim_rule.proofs.Lists.{after-append, follow_parts, legal_parts}
-use Rattle.call_laws.specs.Within.{by_all, IsReached}
+use Rattle.call_laws.specs.Within.{by_all}
 use Rattle.call_laws.proofs.KeptWords.{reallocation_keeps}
-use Rattle.heap_gate.specs.Token.{Token, Always}
-use Rattle.call_parts.specs.Calls.{IsServing, IsInside, GoesOn, Answers, Makes, Brings}
+use Rattle.heap_gate.specs.Token.{Token}
+use Rattle.call_parts.specs.Calls.{IsInside, GoesOn, Answers, Makes}
 use Rattle.call_parts.proofs.Joining.{goes_then, setting_before}
-use Rattle.call_parts.proofs.Serving.{none_begins, none_begins-append, shape-append}
+use Rattle.call_parts.proofs.Serving.{none_begins-append, shape-append}
 use Rattle.address_calls.specs.Answers.{MayGuard}
 use Rattle.stay_calls.specs.Moments.{MakesSo}
 use Rattle.stay_calls.proofs.Behind.{before_later, acts_joined}
 use Rattle.stay_calls.proofs.FrontStays.{before_more}
 use Rattle.stay_calls.proofs.Histories.{joined, acts_added}
-use Rattle.move_calls.specs.Moves.{MayTry, IsInTheWay, IsReallocated}
-use Rattle.heap_now.specs.Calls.{IsReady, HasBegun, HasGone, Gets, GetsBusy, EndsWith}
+use Rattle.move_calls.specs.Moves.{MayTry, IsReallocated}
+use Rattle.heap_now.specs.Calls.{IsReady, HasBegun, HasGone, Gets, EndsWith}
 use Rattle.heap_now.specs.Reallocs.{realloc_answer, KeepsWords}
 use Rattle.heap_now.proofs.Frames.{layer_cause, gets}
 

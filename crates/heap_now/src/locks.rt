@@ -28,7 +28,7 @@ fn unlock_last(heap: &Heap<State>, c: &mut Caller<State>)
     ensures { IsLockedLess c.old c.new }
 {
     begin(c, Call::Unlock);
-    let _given = unlock_gate(heap, c);
+    let _given = unlock_gate(heap, c, false);
 }
 
 /// Gives the heap lock back once. Only the last time is a call of the history.
@@ -42,5 +42,5 @@ pub fn unlock_now(heap: &Heap<State>, c: &mut Caller<State>) -> Result<(), NotOw
         unlock_last(heap, c);
         return Ok(());
     }
-    unlock_gate(heap, c)
+    unlock_gate(heap, c, false)
 }

@@ -1,6 +1,5 @@
 -- A caller behind a reading that adds no entry.
-use Rattle.std.proofs.Common.{◌≡◌, ℕ, ◌%◌, ◌<◌, ◌≤◌, arith, eq-eqb, ne_eqb, ◌==◌, Bool, true, false, not, [], Option, Some, refl, sym, ap, ◌∙◌, subst}
-use Rattle.std.specs.Option.{IsSome}
+use Rattle.std.proofs.Common.{◌≡◌, ℕ, ◌%◌, ◌<◌, ◌≤◌, arith, eq-eqb, ne_eqb, ◌==◌, Bool, true, false, not, [], Option, refl, sym, ap, ◌∙◌, subst}
 use Rattle.atomic_table.specs.Table.{Me}
 use Rattle.atomic_table.specs.Seated.{TableId}
 use Rattle.rand_core.specs.Stream.{Stream}
@@ -35,13 +34,6 @@ clear_bit x z = rw z refl
 
 pub set_bit : (x : ℕ) → (x % 2 ≡ 0 → ⊥) → (x % 2 == 1) ≡ true
 set_bit x nz = let one : x % 2 ≡ 1 = omega arith in eq-eqb (x % 2) 1 one
-
--- what a search for an index found
-pub is_there : (o : Option ℕ) (i : ℕ) → o ≡ Some i → IsSome o
-is_there o i e = subst IsSome (sym e) refl
-
-pub one_index : (i j : ℕ) → Some i ≡ Some j → i ≡ j
-one_index i j e = cc (e)
 
 module _ {T : Type 0} (z : TableId) (me : Me (Option T) View) (f : Face) (slot : ℕ) (stream : Stream) (h : IsCaller me (tok z me f) slot stream) (me' : Me (Option T) View) (go : Goes f.number me.0 me'.0 f.prepared []) where
   pub sooner : (s : Setting) → IsSettingOf me'.0.opening me'.0.roll s → IsSettingOf me.0.opening me.0.roll s

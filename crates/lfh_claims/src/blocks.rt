@@ -1,15 +1,15 @@
 //! Blocks in hand, live blocks, and their size words.
-ghost use Rattle.std.specs.Prelude.{◌≡◌, ◌*◌, ◌<◌, ◌≤◌, true, IfSome, IfNone};
-ghost use Rattle.lfh_buckets.specs.Blocks.{IsBucket};
+ghost use Rattle.std.specs.Prelude.{◌≡◌, ◌*◌, ◌<◌, ◌≤◌, ℕ, true, IfSome, IfNone};
+ghost use Rattle.lfh_buckets.specs.Blocks.{IsBucket, IsBlockAt};
 ghost use Rattle.block_steps.specs.Blocks.{MayPublish, MayAsk};
 ghost use Rattle.heap_gate.specs.Token.{Always, now};
 ghost use Rattle.lfh_claims.specs.Blocks.{HasPublished, HasTakenLive, HasFoundNone, HasSize, MayGiveUp, HasCleared};
 
 use crate::steps::{clear_by, publish_by, size_by, take_by};
 use crate::tag::Tag;
-use heap_gate::{Caller, Heap};
+use heap_gate::{Caller, Heap, Told};
 use heap_model::{GRANULE_BYTES, Stands, WORD_BITS};
-use lfh_buckets::index_of;
+use lfh_buckets::{block_at, block_size};
 use std::marker::Brand;
 use table_words::{bitmap_at, size_at};
 
@@ -63,7 +63,7 @@ pub fn take_live<T: Stands>(heap: &Heap<T>, c: &mut Caller<T>, tag: Tag, addr: u
     if word == 0 {
         return None;
     }
-    c.free = false;
+    c.free = Told::of(&false);
     Some(word - 1)
 }
 
@@ -95,8 +95,21 @@ pub fn live_size<T: Stands>(heap: &Heap<T>, c: &mut Caller<T>, tag: Tag, addr: u
     Some(word - 1)
 }
 
+// The number of the block that begins at an address, of a subsegment that has one there: one division of 32 bits.
+#[inline(always)]
+fn number_at(tag: Tag, addr: u64) -> u16
+    requires bucket { IsBucket tag.bucket }
+    requires head { tag.head < 4096 }
+    requires block { (i : ℕ) × IsBlockAt tag.bucket tag.head addr i }
+    ensures { (i : ℕ) → IsBlockAt tag.bucket tag.head addr i → i ≡ result }
+{
+    let offset = (addr - block_at(tag.bucket, tag.head, 0)) as u32;
+    (offset / block_size(tag.bucket)) as u16
+}
+
 /// Gives a block in hand back, by one fetch_and that clears its bit. The tag is that of its subsegment: the words of its pages
 /// need not be read again, and may still be owed by the caller that made it.
+#[inline(always)]
 pub fn clear<T: Stands>(heap: &Heap<T>, c: &mut Caller<T>, tag: Tag, addr: u64)
     requires table { (c.old.table ≡ heap.now.table) × (c.old.opening ≡ heap.now.opening) }
     requires whole { c.old.whole ≡ true }
@@ -107,7 +120,7 @@ pub fn clear<T: Stands>(heap: &Heap<T>, c: &mut Caller<T>, tag: Tag, addr: u64)
     ensures { HasCleared c.old c.new addr }
 {
     let limits = heap.limits();
-    let index = index_of(tag.bucket, tag.head, addr).unwrap();
+    let index = number_at(tag, addr);
     let number = u32::from(index);
     let at = bitmap_at(&limits, tag.head, number / WORD_BITS) as usize;
     let _bits = clear_by::<T, Brand, Brand>(

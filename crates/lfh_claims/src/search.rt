@@ -6,7 +6,7 @@ ghost use Rattle.heap_gate.specs.Token.{Always, now};
 ghost use Rattle.lfh_claims.specs.Search.{sought, own_slot, IsHintKnown, HasSeen, HasClaimed, HasLost};
 
 use crate::steps::{claim_by, see_by};
-use heap_gate::{Caller, Heap};
+use heap_gate::{Caller, Heap, Told};
 use heap_model::{Stands, WORD_BITS};
 use std::marker::Brand;
 use table_words::bitmap_at;
@@ -66,7 +66,7 @@ pub fn claim<T: Stands>(heap: &Heap<T>, c: &mut Caller<T>, head: u32, index: u16
     c.pending = false;
     let free = (bits >> bit) % 2 == 0;
     if free {
-        c.free = false;
+        c.free = Told::of(&false);
     }
     free
 }

@@ -19,7 +19,7 @@ use crate::steps::{
     Subsegment, clear_tag_by, install_by, look_hint_by, look_tag_by, put_hint_by, put_tag_by,
     retire_by,
 };
-use heap_gate::{Caller, Heap};
+use heap_gate::{Caller, Heap, Told};
 use heap_model::Stands;
 use std::marker::Brand;
 use table_words::{bitmap_at, hint_at, tag_at};
@@ -143,7 +143,7 @@ pub fn make<T: Stands>(
     );
     c.prepared.clear();
     c.pending = false;
-    c.free = false;
+    c.free = Told::of(&false);
 }
 
 /// Stores the tag of a page.

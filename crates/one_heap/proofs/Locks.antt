@@ -8,7 +8,7 @@ use Rattle.heap_model.specs.declared.Reply.{Reply}
 use Rattle.heap_model.specs.declared.Reply.TheVariants as replies
 use Rattle.heap_model.specs.Alone.{may_all_come}
 use Rattle.heap_model.specs.History.{configuration_of}
-use Rattle.heap_model.specs.Moments.{Moment, moments, moments_by}
+use Rattle.heap_model.specs.Moments.{moments, moments_by}
 use Rattle.heap_model.specs.Served.{GetsReply, IsWalk, IsServed, by_depth, depth_after}
 use Rattle.heap_model.specs.Shape.{Replied}
 use Rattle.heap_gate.specs.Calls.{with_depth}

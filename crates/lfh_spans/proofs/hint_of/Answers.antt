@@ -23,7 +23,7 @@ use Rattle.lfh_spans.proofs.hint_of.Goals as goal
 
 pub hint_by-word-requires-clause-may : goal.hint_by-word-requires-clause-may
 hint_by-word-requires-clause-may g c =
-    let i = c.c.inside in let f : Face = record { number = i.number; prepared = i.prepared.items; pending = i.pending; call = i.call; fresh = i.fresh; locked = i.locked; inside = i.inside; depth = i.depth; whole = i.whole; free = i.free; drawn = i.drawn } in let h = c.c.invariant in let z = i.place.table_id in let me = i.place.me in let stream = words_of i.draws in let v = c.c.view_is in
+    let i = c.c.inside in let f : Face = record { number = i.number; prepared = i.prepared.items; pending = i.pending; call = i.call.value; fresh = i.fresh.value; locked = i.locked.value; inside = i.inside; depth = i.depth; whole = i.whole.value; free = i.free.value; drawn = i.drawn.value } in let h = c.c.invariant in let z = i.place.table_id in let me = i.place.me in let stream = words_of i.draws in let v = c.c.view_is in
     let b = c.args.bucket in let t = c.slot-slot.result in
     λ s q. subst (λ (x : ℕ). MayHint s (ready_after s me.0 f.prepared) x b t me.0.owes) (sym (ap number_of h.role))
     (subst (λ (y : Token). Always y (λ s. MayHint s (now s y) y.number b t y.owes)) (sym v)
@@ -31,7 +31,7 @@ hint_by-word-requires-clause-may g c =
 
 pub named-requires : goal.named-requires
 named-requires g c =
-    let i = c.c.inside in let f : Face = record { number = i.number; prepared = i.prepared.items; pending = i.pending; call = i.call; fresh = i.fresh; locked = i.locked; inside = i.inside; depth = i.depth; whole = i.whole; free = i.free; drawn = i.drawn } in let h = c.c.invariant in let z = i.place.table_id in let me = i.place.me in let stream = words_of i.draws in let v = c.c.view_is in
+    let i = c.c.inside in let f : Face = record { number = i.number; prepared = i.prepared.items; pending = i.pending; call = i.call.value; fresh = i.fresh.value; locked = i.locked.value; inside = i.inside; depth = i.depth; whole = i.whole.value; free = i.free.value; drawn = i.drawn.value } in let h = c.c.invariant in let z = i.place.table_id in let me = i.place.me in let stream = words_of i.draws in let v = c.c.view_is in
     let b = c.args.bucket in let t = c.slot-slot.result in let word = c.hint_by-word.result in
     let p = c.hint_by-word.new.place in let told = c.hint_by-word.ensures.told in
     let w = ap (λ (t : Token). t.whole) v ∙ c.requires.whole in
@@ -52,7 +52,7 @@ named-requires g c =
 
 pub invariant_of-c : goal.invariant_of-c
 invariant_of-c g c =
-    let i = c.c.inside in let f : Face = record { number = i.number; prepared = i.prepared.items; pending = i.pending; call = i.call; fresh = i.fresh; locked = i.locked; inside = i.inside; depth = i.depth; whole = i.whole; free = i.free; drawn = i.drawn } in let h = c.c.invariant in let z = i.place.table_id in let me = i.place.me in let stream = words_of i.draws in let v = c.c.view_is in
+    let i = c.c.inside in let f : Face = record { number = i.number; prepared = i.prepared.items; pending = i.pending; call = i.call.value; fresh = i.fresh.value; locked = i.locked.value; inside = i.inside; depth = i.depth; whole = i.whole.value; free = i.free.value; drawn = i.drawn.value } in let h = c.c.invariant in let z = i.place.table_id in let me = i.place.me in let stream = words_of i.draws in let v = c.c.view_is in
     let b = c.args.bucket in let t = c.slot-slot.result in let word = c.hint_by-word.result in
     let p = c.hint_by-word.new.place in let told = c.hint_by-word.ensures.told in
     let w = ap (λ (t : Token). t.whole) v ∙ c.requires.whole in
@@ -66,7 +66,7 @@ invariant_of-c g c =
 
 pub returns-clause-found : goal.returns-clause-found
 returns-clause-found g c =
-    let i = c.c.inside in let f : Face = record { number = i.number; prepared = i.prepared.items; pending = i.pending; call = i.call; fresh = i.fresh; locked = i.locked; inside = i.inside; depth = i.depth; whole = i.whole; free = i.free; drawn = i.drawn } in let h = c.c.invariant in let z = i.place.table_id in let me = i.place.me in let stream = words_of i.draws in let v = c.c.view_is in
+    let i = c.c.inside in let f : Face = record { number = i.number; prepared = i.prepared.items; pending = i.pending; call = i.call.value; fresh = i.fresh.value; locked = i.locked.value; inside = i.inside; depth = i.depth; whole = i.whole.value; free = i.free.value; drawn = i.drawn.value } in let h = c.c.invariant in let z = i.place.table_id in let me = i.place.me in let stream = words_of i.draws in let v = c.c.view_is in
     let b = c.args.bucket in let t = c.slot-slot.result in let word = c.hint_by-word.result in
     let p = c.hint_by-word.new.place in let told = c.hint_by-word.ensures.told in
     let w = ap (λ (t : Token). t.whole) v ∙ c.requires.whole in
@@ -89,7 +89,7 @@ returns-clause-found g c =
 
 pub returns-clause-none : goal.returns-clause-none
 returns-clause-none g c =
-    let i = c.c.inside in let f : Face = record { number = i.number; prepared = i.prepared.items; pending = i.pending; call = i.call; fresh = i.fresh; locked = i.locked; inside = i.inside; depth = i.depth; whole = i.whole; free = i.free; drawn = i.drawn } in let h = c.c.invariant in let z = i.place.table_id in let me = i.place.me in let stream = words_of i.draws in let v = c.c.view_is in
+    let i = c.c.inside in let f : Face = record { number = i.number; prepared = i.prepared.items; pending = i.pending; call = i.call.value; fresh = i.fresh.value; locked = i.locked.value; inside = i.inside; depth = i.depth; whole = i.whole.value; free = i.free.value; drawn = i.drawn.value } in let h = c.c.invariant in let z = i.place.table_id in let me = i.place.me in let stream = words_of i.draws in let v = c.c.view_is in
     let b = c.args.bucket in let t = c.slot-slot.result in let word = c.hint_by-word.result in
     let p = c.hint_by-word.new.place in let told = c.hint_by-word.ensures.told in
     let w = ap (λ (t : Token). t.whole) v ∙ c.requires.whole in

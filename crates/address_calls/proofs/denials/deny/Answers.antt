@@ -14,14 +14,14 @@ use Rattle.address_calls.proofs.denials.deny.Goals as goal
 
 pub deny_by-requires-clause-may : goal.deny_by-requires-clause-may
 deny_by-requires-clause-may c =
-    let i = c.c.inside in let f : Face = record { number = i.number; prepared = i.prepared.items; pending = i.pending; call = i.call; fresh = i.fresh; locked = i.locked; inside = i.inside; depth = i.depth; whole = i.whole; free = i.free; drawn = i.drawn } in let h = c.c.invariant in let z = i.place.table_id in let me = i.place.me in let stream = words_of i.draws in let v = c.c.view_is in
+    let i = c.c.inside in let f : Face = record { number = i.number; prepared = i.prepared.items; pending = i.pending; call = i.call.value; fresh = i.fresh.value; locked = i.locked.value; inside = i.inside; depth = i.depth; whole = i.whole.value; free = i.free.value; drawn = i.drawn.value } in let h = c.c.invariant in let z = i.place.table_id in let me = i.place.me in let stream = words_of i.draws in let v = c.c.view_is in
     let same : me.0.opening ≡ c.heap.inside.table.shared.key = ap (λ (t : Token). t.opening) v ∙ (c.requires.table.1 ∙ (ap (λ (t : HeapToken). t.opening) (sym c.heap.view_is) ∙ sym c.heap.invariant.same)) in
     let none = subst (λ (t : Token). Always t (λ s. MayDeny t.opening.limits (now s t) t.number c.args.addr)) (sym v) c.requires.none in
     may_by z me f i.slot stream h (λ m n. MayDeny c.heap.inside.table.shared.key.limits m n c.args.addr) (λ s q. subst (λ (o : Opening). MayDeny o.limits (ready_after s me.0 f.prepared) i.number c.args.addr) same (none s q))
 
 pub invariant_of-c : goal.invariant_of-c
 invariant_of-c c =
-    let i = c.c.inside in let f : Face = record { number = i.number; prepared = i.prepared.items; pending = i.pending; call = i.call; fresh = i.fresh; locked = i.locked; inside = i.inside; depth = i.depth; whole = i.whole; free = i.free; drawn = i.drawn } in let h = c.c.invariant in let z = i.place.table_id in let me = i.place.me in let stream = words_of i.draws in let v = c.c.view_is in
+    let i = c.c.inside in let f : Face = record { number = i.number; prepared = i.prepared.items; pending = i.pending; call = i.call.value; fresh = i.fresh.value; locked = i.locked.value; inside = i.inside; depth = i.depth; whole = i.whole.value; free = i.free.value; drawn = i.drawn.value } in let h = c.c.invariant in let z = i.place.table_id in let me = i.place.me in let stream = words_of i.draws in let v = c.c.view_is in
     let w = ap (λ (t : Token). t.whole) v ∙ c.requires.whole in
     let p = c.deny_by.new.place in let none = c.deny_by.ensures.told.1 in let addr = c.args.addr in
     let go = goes_by z me f i.slot stream h p.me.0 (λ n. entry n (acts.NotLive addr) ∷ []) none.adds in
@@ -29,7 +29,7 @@ invariant_of-c c =
 
 pub returns : goal.returns
 returns c =
-    let i = c.c.inside in let f : Face = record { number = i.number; prepared = i.prepared.items; pending = i.pending; call = i.call; fresh = i.fresh; locked = i.locked; inside = i.inside; depth = i.depth; whole = i.whole; free = i.free; drawn = i.drawn } in let h = c.c.invariant in let z = i.place.table_id in let me = i.place.me in let stream = words_of i.draws in let v = c.c.view_is in
+    let i = c.c.inside in let f : Face = record { number = i.number; prepared = i.prepared.items; pending = i.pending; call = i.call.value; fresh = i.fresh.value; locked = i.locked.value; inside = i.inside; depth = i.depth; whole = i.whole.value; free = i.free.value; drawn = i.drawn.value } in let h = c.c.invariant in let z = i.place.table_id in let me = i.place.me in let stream = words_of i.draws in let v = c.c.view_is in
     let w = ap (λ (t : Token). t.whole) v ∙ c.requires.whole in
     let p = c.deny_by.new.place in let none = c.deny_by.ensures.told.1 in let addr = c.args.addr in
     let go = goes_by z me f i.slot stream h p.me.0 (λ n. entry n (acts.NotLive addr) ∷ []) none.adds in

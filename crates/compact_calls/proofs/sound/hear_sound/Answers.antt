@@ -10,7 +10,7 @@ use Rattle.compact_calls.proofs.sound.hear_sound.Goals as goal
 
 pub invariant_of-c : goal.invariant_of-c
 invariant_of-c c =
-    let i = c.c.inside in let f : Face = record { number = i.number; prepared = i.prepared.items; pending = i.pending; call = i.call; fresh = i.fresh; locked = i.locked; inside = i.inside; depth = i.depth; whole = i.whole; free = i.free; drawn = i.drawn } in let h = c.c.invariant in let z = i.place.table_id in let me = i.place.me in let stream = words_of i.draws in let v = c.c.view_is in
+    let i = c.c.inside in let f : Face = record { number = i.number; prepared = i.prepared.items; pending = i.pending; call = i.call.value; fresh = i.fresh.value; locked = i.locked.value; inside = i.inside; depth = i.depth; whole = i.whole.value; free = i.free.value; drawn = i.drawn.value } in let h = c.c.invariant in let z = i.place.table_id in let me = i.place.me in let stream = words_of i.draws in let v = c.c.view_is in
     let p = c.hear_by.new.place in let told = c.hear_by.ensures.told.1 in
     let w = ap (λ (t : Token). t.whole) v ∙ c.requires.whole in
     let go = goes_by z me f i.slot stream h p.me.0 (λ _. []) told.goes in
@@ -18,7 +18,7 @@ invariant_of-c c =
 
 pub returns-clause-runs : goal.returns-clause-runs
 returns-clause-runs c =
-    let i = c.c.inside in let f : Face = record { number = i.number; prepared = i.prepared.items; pending = i.pending; call = i.call; fresh = i.fresh; locked = i.locked; inside = i.inside; depth = i.depth; whole = i.whole; free = i.free; drawn = i.drawn } in let h = c.c.invariant in let z = i.place.table_id in let me = i.place.me in let stream = words_of i.draws in let v = c.c.view_is in
+    let i = c.c.inside in let f : Face = record { number = i.number; prepared = i.prepared.items; pending = i.pending; call = i.call.value; fresh = i.fresh.value; locked = i.locked.value; inside = i.inside; depth = i.depth; whole = i.whole.value; free = i.free.value; drawn = i.drawn.value } in let h = c.c.invariant in let z = i.place.table_id in let me = i.place.me in let stream = words_of i.draws in let v = c.c.view_is in
     let p = c.hear_by.new.place in let told = c.hear_by.ensures.told.1 in
     let w = ap (λ (t : Token). t.whole) v ∙ c.requires.whole in
     let go = goes_by z me f i.slot stream h p.me.0 (λ _. []) told.goes in
@@ -27,7 +27,7 @@ returns-clause-runs c =
 
 pub returns-clause-stands : goal.returns-clause-stands
 returns-clause-stands c =
-    let i = c.c.inside in let f : Face = record { number = i.number; prepared = i.prepared.items; pending = i.pending; call = i.call; fresh = i.fresh; locked = i.locked; inside = i.inside; depth = i.depth; whole = i.whole; free = i.free; drawn = i.drawn } in let h = c.c.invariant in let z = i.place.table_id in let me = i.place.me in let stream = words_of i.draws in let v = c.c.view_is in
+    let i = c.c.inside in let f : Face = record { number = i.number; prepared = i.prepared.items; pending = i.pending; call = i.call.value; fresh = i.fresh.value; locked = i.locked.value; inside = i.inside; depth = i.depth; whole = i.whole.value; free = i.free.value; drawn = i.drawn.value } in let h = c.c.invariant in let z = i.place.table_id in let me = i.place.me in let stream = words_of i.draws in let v = c.c.view_is in
     let p = c.hear_by.new.place in let told = c.hear_by.ensures.told.1 in
     let w = ap (λ (t : Token). t.whole) v ∙ c.requires.whole in
     let go = goes_by z me f i.slot stream h p.me.0 (λ _. []) told.goes in
@@ -36,6 +36,6 @@ returns-clause-stands c =
 
 pub returns-clause-sound : goal.returns-clause-sound
 returns-clause-sound c =
-    let i = c.c.inside in let f : Face = record { number = i.number; prepared = i.prepared.items; pending = i.pending; call = i.call; fresh = i.fresh; locked = i.locked; inside = i.inside; depth = i.depth; whole = i.whole; free = i.free; drawn = i.drawn } in let h = c.c.invariant in let z = i.place.table_id in let me = i.place.me in let stream = words_of i.draws in
+    let i = c.c.inside in let f : Face = record { number = i.number; prepared = i.prepared.items; pending = i.pending; call = i.call.value; fresh = i.fresh.value; locked = i.locked.value; inside = i.inside; depth = i.depth; whole = i.whole.value; free = i.free.value; drawn = i.drawn.value } in let h = c.c.invariant in let z = i.place.table_id in let me = i.place.me in let stream = words_of i.draws in
     let p = c.hear_by.new.place in let told = c.hear_by.ensures.told.1 in
     with_left z me f i.slot stream h p.me c.clear.new.self.items c.clear.ensures (λ s m. IsSoundFor p.me.0.opening.limits m) told.sound

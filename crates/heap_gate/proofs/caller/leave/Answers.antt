@@ -14,16 +14,16 @@ use Rattle.heap_gate.proofs.caller.leave.Goals as goal
 
 pub leave_as-requires-clause-may : goal.leave_as-requires-clause-may
 leave_as-requires-clause-may g c =
-    let i = c.c.inside in let f : Face = record { number = i.number; prepared = i.prepared.items; pending = i.pending; call = i.call; fresh = i.fresh; locked = i.locked; inside = i.inside; depth = i.depth; whole = i.whole; free = i.free; drawn = i.drawn } in let h = c.c.invariant in let z = i.place.table_id in let me = i.place.me in let stream = words_of i.draws in let v = c.c.view_is in
+    let i = c.c.inside in let f : Face = record { number = i.number; prepared = i.prepared.items; pending = i.pending; call = i.call.value; fresh = i.fresh.value; locked = i.locked.value; inside = i.inside; depth = i.depth; whole = i.whole.value; free = i.free.value; drawn = i.drawn.value } in let h = c.c.invariant in let z = i.place.table_id in let me = i.place.me in let stream = words_of i.draws in let v = c.c.view_is in
     let inside = ap (λ (t : Token). t.inside) v ∙ c.requires.inside in
     let free = ap (λ (t : Token). t.free) v ∙ c.requires.free in
-    may_by z me f i.slot stream h MayGoOut (λ s q. out_of (ready_after s me.0 f.prepared) i.number i.call i.depth (outs me.1) i.fresh i.whole (ap (λ (t : Token). t.out) v ∙ c.requires.out)
-    (subst (λ (b : Bool). IsAt (ready_after s me.0 f.prepared) i.number i.call i.fresh true i.depth (outs me.1) i.whole b) free
-    (subst (λ (b : Bool). IsAt (ready_after s me.0 f.prepared) i.number i.call i.fresh b i.depth (outs me.1) i.whole i.free) inside (h.at s q))))
+    may_by z me f i.slot stream h MayGoOut (λ s q. out_of (ready_after s me.0 f.prepared) i.number i.call.value i.depth (outs me.1) i.fresh.value i.whole.value (ap (λ (t : Token). t.out) v ∙ c.requires.out)
+    (subst (λ (b : Bool). IsAt (ready_after s me.0 f.prepared) i.number i.call.value i.fresh.value true i.depth (outs me.1) i.whole.value b) free
+    (subst (λ (b : Bool). IsAt (ready_after s me.0 f.prepared) i.number i.call.value i.fresh.value b i.depth (outs me.1) i.whole.value i.free.value) inside (h.at s q))))
 
 pub invariant_of-c : goal.invariant_of-c
 invariant_of-c g c =
-    let i = c.c.inside in let f : Face = record { number = i.number; prepared = i.prepared.items; pending = i.pending; call = i.call; fresh = i.fresh; locked = i.locked; inside = i.inside; depth = i.depth; whole = i.whole; free = i.free; drawn = i.drawn } in let h = c.c.invariant in let z = i.place.table_id in let me = i.place.me in let stream = words_of i.draws in let v = c.c.view_is in
+    let i = c.c.inside in let f : Face = record { number = i.number; prepared = i.prepared.items; pending = i.pending; call = i.call.value; fresh = i.fresh.value; locked = i.locked.value; inside = i.inside; depth = i.depth; whole = i.whole.value; free = i.free.value; drawn = i.drawn.value } in let h = c.c.invariant in let z = i.place.table_id in let me = i.place.me in let stream = words_of i.draws in let v = c.c.view_is in
     let p = c.leave_as.new.place in let told = c.leave_as.ensures.told.1 in
     let w = ap (λ (t : Token). t.whole) v ∙ c.requires.whole in
     let inside = ap (λ (t : Token). t.inside) v ∙ c.requires.inside in
@@ -34,7 +34,7 @@ invariant_of-c g c =
 
 pub returns : goal.returns
 returns g c =
-    let i = c.c.inside in let f : Face = record { number = i.number; prepared = i.prepared.items; pending = i.pending; call = i.call; fresh = i.fresh; locked = i.locked; inside = i.inside; depth = i.depth; whole = i.whole; free = i.free; drawn = i.drawn } in let h = c.c.invariant in let z = i.place.table_id in let me = i.place.me in let stream = words_of i.draws in let v = c.c.view_is in
+    let i = c.c.inside in let f : Face = record { number = i.number; prepared = i.prepared.items; pending = i.pending; call = i.call.value; fresh = i.fresh.value; locked = i.locked.value; inside = i.inside; depth = i.depth; whole = i.whole.value; free = i.free.value; drawn = i.drawn.value } in let h = c.c.invariant in let z = i.place.table_id in let me = i.place.me in let stream = words_of i.draws in let v = c.c.view_is in
     let p = c.leave_as.new.place in let told = c.leave_as.ensures.told.1 in
     let w = ap (λ (t : Token). t.whole) v ∙ c.requires.whole in
     let inside = ap (λ (t : Token). t.inside) v ∙ c.requires.inside in

@@ -14,19 +14,19 @@ use Rattle.heap_gate.proofs.heap_lock.give.Goals as goal
 
 pub unlock_as-requires-clause-ready : goal.unlock_as-requires-clause-ready
 unlock_as-requires-clause-ready g c =
-    let i = c.c.inside in let f : Face = record { number = i.number; prepared = i.prepared.items; pending = i.pending; call = i.call; fresh = i.fresh; locked = i.locked; inside = i.inside; depth = i.depth; whole = i.whole; free = i.free; drawn = i.drawn } in let h = c.c.invariant in let z = i.place.table_id in let me = i.place.me in let stream = words_of i.draws in let v = c.c.view_is in
+    let i = c.c.inside in let f : Face = record { number = i.number; prepared = i.prepared.items; pending = i.pending; call = i.call.value; fresh = i.fresh.value; locked = i.locked.value; inside = i.inside; depth = i.depth; whole = i.whole.value; free = i.free.value; drawn = i.drawn.value } in let h = c.c.invariant in let z = i.place.table_id in let me = i.place.me in let stream = words_of i.draws in let v = c.c.view_is in
     ready_by z me f i.slot stream h (h.even.whole (ap (λ (t : Token). t.inside) v ∙ c.requires.outside) (ap (λ (t : Token). t.out) v ∙ c.requires.out))
 
 pub unlock_as-requires-clause-may : goal.unlock_as-requires-clause-may
 unlock_as-requires-clause-may g c =
-    let i = c.c.inside in let f : Face = record { number = i.number; prepared = i.prepared.items; pending = i.pending; call = i.call; fresh = i.fresh; locked = i.locked; inside = i.inside; depth = i.depth; whole = i.whole; free = i.free; drawn = i.drawn } in let h = c.c.invariant in let z = i.place.table_id in let me = i.place.me in let stream = words_of i.draws in let v = c.c.view_is in
+    let i = c.c.inside in let f : Face = record { number = i.number; prepared = i.prepared.items; pending = i.pending; call = i.call.value; fresh = i.fresh.value; locked = i.locked.value; inside = i.inside; depth = i.depth; whole = i.whole.value; free = i.free.value; drawn = i.drawn.value } in let h = c.c.invariant in let z = i.place.table_id in let me = i.place.me in let stream = words_of i.draws in let v = c.c.view_is in
     let outside = ap (λ (t : Token). t.inside) v ∙ c.requires.outside in
-    may_by z me f i.slot stream h MayGiveUp (λ s q. give_up_of (ready_after s me.0 f.prepared) i.number i.call i.depth (outs me.1) i.fresh i.whole i.free (ap (λ (t : Token). t.out) v ∙ c.requires.out) (ap (λ (t : Token). t.depth) v ∙ c.requires.owns)
-    (subst (λ (b : Bool). IsAt (ready_after s me.0 f.prepared) i.number i.call i.fresh b i.depth (outs me.1) i.whole i.free) outside (h.at s q)))
+    may_by z me f i.slot stream h MayGiveUp (λ s q. give_up_of (ready_after s me.0 f.prepared) i.number i.call.value i.depth (outs me.1) i.fresh.value i.whole.value i.free.value (ap (λ (t : Token). t.out) v ∙ c.requires.out) (ap (λ (t : Token). t.depth) v ∙ c.requires.owns)
+    (subst (λ (b : Bool). IsAt (ready_after s me.0 f.prepared) i.number i.call.value i.fresh.value b i.depth (outs me.1) i.whole.value i.free.value) outside (h.at s q)))
 
 pub invariant_of-c : goal.invariant_of-c
 invariant_of-c g c =
-    let i = c.c.inside in let f : Face = record { number = i.number; prepared = i.prepared.items; pending = i.pending; call = i.call; fresh = i.fresh; locked = i.locked; inside = i.inside; depth = i.depth; whole = i.whole; free = i.free; drawn = i.drawn } in let h = c.c.invariant in let z = i.place.table_id in let me = i.place.me in let stream = words_of i.draws in let v = c.c.view_is in
+    let i = c.c.inside in let f : Face = record { number = i.number; prepared = i.prepared.items; pending = i.pending; call = i.call.value; fresh = i.fresh.value; locked = i.locked.value; inside = i.inside; depth = i.depth; whole = i.whole.value; free = i.free.value; drawn = i.drawn.value } in let h = c.c.invariant in let z = i.place.table_id in let me = i.place.me in let stream = words_of i.draws in let v = c.c.view_is in
     let p = c.unlock_as.new.place in let told = c.unlock_as.ensures.told.1 in
     let outside = ap (λ (t : Token). t.inside) v ∙ c.requires.outside in
     let w = h.even.whole outside (ap (λ (t : Token). t.out) v ∙ c.requires.out) in
@@ -35,7 +35,7 @@ invariant_of-c g c =
 
 pub returns : goal.returns
 returns g c =
-    let i = c.c.inside in let f : Face = record { number = i.number; prepared = i.prepared.items; pending = i.pending; call = i.call; fresh = i.fresh; locked = i.locked; inside = i.inside; depth = i.depth; whole = i.whole; free = i.free; drawn = i.drawn } in let h = c.c.invariant in let z = i.place.table_id in let me = i.place.me in let stream = words_of i.draws in let v = c.c.view_is in
+    let i = c.c.inside in let f : Face = record { number = i.number; prepared = i.prepared.items; pending = i.pending; call = i.call.value; fresh = i.fresh.value; locked = i.locked.value; inside = i.inside; depth = i.depth; whole = i.whole.value; free = i.free.value; drawn = i.drawn.value } in let h = c.c.invariant in let z = i.place.table_id in let me = i.place.me in let stream = words_of i.draws in let v = c.c.view_is in
     let p = c.unlock_as.new.place in let told = c.unlock_as.ensures.told.1 in
     let outside = ap (λ (t : Token). t.inside) v ∙ c.requires.outside in
     let w = h.even.whole outside (ap (λ (t : Token). t.out) v ∙ c.requires.out) in

@@ -18,22 +18,22 @@ use Rattle.heap_gate.proofs.locks.give_lock.Goals as goal
 
 pub give_by-requires-clause-out : goal.give_by-requires-clause-out
 give_by-requires-clause-out g c =
-    let i = c.c.inside in let f : Face = record { number = i.number; prepared = i.prepared.items; pending = i.pending; call = i.call; fresh = i.fresh; locked = i.locked; inside = i.inside; depth = i.depth; whole = i.whole; free = i.free; drawn = i.drawn } in let h = c.c.invariant in let z = i.place.table_id in let me = i.place.me in let stream = words_of i.draws in let v = c.c.view_is in
+    let i = c.c.inside in let f : Face = record { number = i.number; prepared = i.prepared.items; pending = i.pending; call = i.call.value; fresh = i.fresh.value; locked = i.locked.value; inside = i.inside; depth = i.depth; whole = i.whole.value; free = i.free.value; drawn = i.drawn.value } in let h = c.c.invariant in let z = i.place.table_id in let me = i.place.me in let stream = words_of i.draws in let v = c.c.view_is in
     let x = out_head me.1 (slot_of c.args.what) c.requires.lock.0 h.slots (ap (λ (t : Token). t.out) v ∙ c.requires.lock.1) in (x.0, x.1)
 
 pub give_by-requires-clause-may : goal.give_by-requires-clause-may
 give_by-requires-clause-may g c =
-    let i = c.c.inside in let f : Face = record { number = i.number; prepared = i.prepared.items; pending = i.pending; call = i.call; fresh = i.fresh; locked = i.locked; inside = i.inside; depth = i.depth; whole = i.whole; free = i.free; drawn = i.drawn } in let h = c.c.invariant in let z = i.place.table_id in let me = i.place.me in let stream = words_of i.draws in let v = c.c.view_is in
+    let i = c.c.inside in let f : Face = record { number = i.number; prepared = i.prepared.items; pending = i.pending; call = i.call.value; fresh = i.fresh.value; locked = i.locked.value; inside = i.inside; depth = i.depth; whole = i.whole.value; free = i.free.value; drawn = i.drawn.value } in let h = c.c.invariant in let z = i.place.table_id in let me = i.place.me in let stream = words_of i.draws in let v = c.c.view_is in
     let what = c.args.what in
     let inside = (λ j. (ap (λ (t : Token). t.inside || not (t.depth == 0)) v) j) ∙ c.requires.inside in
     let tells = subst (λ (t : Token). Always t (λ s. (leaves_whole (now s t).state what ≡ true) × Tells what t.opening (now s t).state (g.T.Stands.stands c.args.state))) (sym v) c.requires.tells in
     let top = ap (is_out what) (ap (λ (t : Token). t.out) v ∙ c.requires.lock.1) ∙ out_top what c.requires.lock.0 c.requires.slot in
     may_by z me f i.slot stream h (λ m n. MayGiveBack m n what × Tells what me.0.opening m.state (g.T.Stands.stands c.args.state))
-    (λ s q. let t = tells s q in (give_of (ready_after s me.0 f.prepared) i.number i.call i.depth (outs me.1) i.fresh i.inside i.whole i.free what inside top t.0 (h.at s q), t.1))
+    (λ s q. let t = tells s q in (give_of (ready_after s me.0 f.prepared) i.number i.call.value i.depth (outs me.1) i.fresh.value i.inside i.whole.value i.free.value what inside top t.0 (h.at s q), t.1))
 
 pub invariant_of-c : goal.invariant_of-c
 invariant_of-c g c =
-    let i = c.c.inside in let f : Face = record { number = i.number; prepared = i.prepared.items; pending = i.pending; call = i.call; fresh = i.fresh; locked = i.locked; inside = i.inside; depth = i.depth; whole = i.whole; free = i.free; drawn = i.drawn } in let h = c.c.invariant in let z = i.place.table_id in let me = i.place.me in let stream = words_of i.draws in let v = c.c.view_is in
+    let i = c.c.inside in let f : Face = record { number = i.number; prepared = i.prepared.items; pending = i.pending; call = i.call.value; fresh = i.fresh.value; locked = i.locked.value; inside = i.inside; depth = i.depth; whole = i.whole.value; free = i.free.value; drawn = i.drawn.value } in let h = c.c.invariant in let z = i.place.table_id in let me = i.place.me in let stream = words_of i.draws in let v = c.c.view_is in
     let p = c.give_by.new.place in let what = c.args.what in let told = c.give_by.ensures.told in
     let w = ap (λ (t : Token). t.whole) v ∙ c.requires.whole in
     let out = ap (λ (t : Token). t.out) v ∙ c.requires.lock.1 in
@@ -44,7 +44,7 @@ invariant_of-c g c =
 
 pub returns : goal.returns
 returns g c =
-    let i = c.c.inside in let f : Face = record { number = i.number; prepared = i.prepared.items; pending = i.pending; call = i.call; fresh = i.fresh; locked = i.locked; inside = i.inside; depth = i.depth; whole = i.whole; free = i.free; drawn = i.drawn } in let h = c.c.invariant in let z = i.place.table_id in let me = i.place.me in let stream = words_of i.draws in let v = c.c.view_is in
+    let i = c.c.inside in let f : Face = record { number = i.number; prepared = i.prepared.items; pending = i.pending; call = i.call.value; fresh = i.fresh.value; locked = i.locked.value; inside = i.inside; depth = i.depth; whole = i.whole.value; free = i.free.value; drawn = i.drawn.value } in let h = c.c.invariant in let z = i.place.table_id in let me = i.place.me in let stream = words_of i.draws in let v = c.c.view_is in
     let p = c.give_by.new.place in let what = c.args.what in let told = c.give_by.ensures.told in
     let w = ap (λ (t : Token). t.whole) v ∙ c.requires.whole in
     let out = ap (λ (t : Token). t.out) v ∙ c.requires.lock.1 in

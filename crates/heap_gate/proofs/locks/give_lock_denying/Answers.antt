@@ -20,29 +20,29 @@ use Rattle.heap_gate.proofs.locks.give_lock_denying.Goals as goal
 
 pub deny_give_by-requires-clause-out : goal.deny_give_by-requires-clause-out
 deny_give_by-requires-clause-out g c =
-    let i = c.c.inside in let f : Face = record { number = i.number; prepared = i.prepared.items; pending = i.pending; call = i.call; fresh = i.fresh; locked = i.locked; inside = i.inside; depth = i.depth; whole = i.whole; free = i.free; drawn = i.drawn } in let h = c.c.invariant in let z = i.place.table_id in let me = i.place.me in let stream = words_of i.draws in let v = c.c.view_is in
+    let i = c.c.inside in let f : Face = record { number = i.number; prepared = i.prepared.items; pending = i.pending; call = i.call.value; fresh = i.fresh.value; locked = i.locked.value; inside = i.inside; depth = i.depth; whole = i.whole.value; free = i.free.value; drawn = i.drawn.value } in let h = c.c.invariant in let z = i.place.table_id in let me = i.place.me in let stream = words_of i.draws in let v = c.c.view_is in
     let x = out_head me.1 (slot_of c.args.what) c.requires.lock.0 h.slots (ap (λ (t : Token). t.out) v ∙ c.requires.lock.1) in (x.0, x.1)
 
 pub deny_give_by-requires-clause-may : goal.deny_give_by-requires-clause-may
 deny_give_by-requires-clause-may g c =
-    let i = c.c.inside in let f : Face = record { number = i.number; prepared = i.prepared.items; pending = i.pending; call = i.call; fresh = i.fresh; locked = i.locked; inside = i.inside; depth = i.depth; whole = i.whole; free = i.free; drawn = i.drawn } in let h = c.c.invariant in let z = i.place.table_id in let me = i.place.me in let stream = words_of i.draws in let v = c.c.view_is in
+    let i = c.c.inside in let f : Face = record { number = i.number; prepared = i.prepared.items; pending = i.pending; call = i.call.value; fresh = i.fresh.value; locked = i.locked.value; inside = i.inside; depth = i.depth; whole = i.whole.value; free = i.free.value; drawn = i.drawn.value } in let h = c.c.invariant in let z = i.place.table_id in let me = i.place.me in let stream = words_of i.draws in let v = c.c.view_is in
     let what = c.args.what in
     let inside = (λ j. (ap (λ (t : Token). t.inside || not (t.depth == 0)) v) j) ∙ c.requires.inside in
     let tells = subst (λ (t : Token). Always t (λ s. (leaves_whole (now s t).state what ≡ true) × Tells what t.opening (now s t).state (g.T.Stands.stands c.args.state))) (sym v) c.requires.tells in
     let top = ap (is_out what) (ap (λ (t : Token). t.out) v ∙ c.requires.lock.1) ∙ out_top what c.requires.lock.0 c.requires.slot in
     may_by z me f i.slot stream h (λ m n. MayGiveBack m n what × Tells what me.0.opening m.state (g.T.Stands.stands c.args.state))
-    (λ s q. let t = tells s q in (give_of (ready_after s me.0 f.prepared) i.number i.call i.depth (outs me.1) i.fresh i.inside i.whole i.free what inside top t.0 (h.at s q), t.1))
+    (λ s q. let t = tells s q in (give_of (ready_after s me.0 f.prepared) i.number i.call.value i.depth (outs me.1) i.fresh.value i.inside i.whole.value i.free.value what inside top t.0 (h.at s q), t.1))
 
 pub deny_give_by-requires-clause-none : goal.deny_give_by-requires-clause-none
 deny_give_by-requires-clause-none g c =
-    let i = c.c.inside in let f : Face = record { number = i.number; prepared = i.prepared.items; pending = i.pending; call = i.call; fresh = i.fresh; locked = i.locked; inside = i.inside; depth = i.depth; whole = i.whole; free = i.free; drawn = i.drawn } in let h = c.c.invariant in let z = i.place.table_id in let me = i.place.me in let stream = words_of i.draws in let v = c.c.view_is in
+    let i = c.c.inside in let f : Face = record { number = i.number; prepared = i.prepared.items; pending = i.pending; call = i.call.value; fresh = i.fresh.value; locked = i.locked.value; inside = i.inside; depth = i.depth; whole = i.whole.value; free = i.free.value; drawn = i.drawn.value } in let h = c.c.invariant in let z = i.place.table_id in let me = i.place.me in let stream = words_of i.draws in let v = c.c.view_is in
     let same : me.0.opening ≡ c.heap.inside.table.shared.key = ap (λ (t : Token). t.opening) v ∙ (c.requires.opening ∙ (ap (λ (t : HeapToken). t.opening) (sym c.heap.view_is) ∙ sym c.heap.invariant.same)) in
     let none = subst (λ (t : Token). Always t (λ s. MayDeny t.opening.limits (now s t) t.number c.args.addr)) (sym v) c.requires.none in
     may_by z me f i.slot stream h (λ m n. MayDeny c.heap.inside.table.shared.key.limits m n c.args.addr) (λ s q. subst (λ (o : Opening). MayDeny o.limits (ready_after s me.0 f.prepared) i.number c.args.addr) same (none s q))
 
 pub invariant_of-c : goal.invariant_of-c
 invariant_of-c g c =
-    let i = c.c.inside in let f : Face = record { number = i.number; prepared = i.prepared.items; pending = i.pending; call = i.call; fresh = i.fresh; locked = i.locked; inside = i.inside; depth = i.depth; whole = i.whole; free = i.free; drawn = i.drawn } in let h = c.c.invariant in let z = i.place.table_id in let me = i.place.me in let stream = words_of i.draws in let v = c.c.view_is in
+    let i = c.c.inside in let f : Face = record { number = i.number; prepared = i.prepared.items; pending = i.pending; call = i.call.value; fresh = i.fresh.value; locked = i.locked.value; inside = i.inside; depth = i.depth; whole = i.whole.value; free = i.free.value; drawn = i.drawn.value } in let h = c.c.invariant in let z = i.place.table_id in let me = i.place.me in let stream = words_of i.draws in let v = c.c.view_is in
     let p = c.deny_give_by.new.place in let what = c.args.what in let addr = c.args.addr in let told = c.deny_give_by.ensures.told in
     let w = ap (λ (t : Token). t.whole) v ∙ c.requires.whole in
     let out = ap (λ (t : Token). t.out) v ∙ c.requires.lock.1 in
@@ -53,7 +53,7 @@ invariant_of-c g c =
 
 pub returns : goal.returns
 returns g c =
-    let i = c.c.inside in let f : Face = record { number = i.number; prepared = i.prepared.items; pending = i.pending; call = i.call; fresh = i.fresh; locked = i.locked; inside = i.inside; depth = i.depth; whole = i.whole; free = i.free; drawn = i.drawn } in let h = c.c.invariant in let z = i.place.table_id in let me = i.place.me in let stream = words_of i.draws in let v = c.c.view_is in
+    let i = c.c.inside in let f : Face = record { number = i.number; prepared = i.prepared.items; pending = i.pending; call = i.call.value; fresh = i.fresh.value; locked = i.locked.value; inside = i.inside; depth = i.depth; whole = i.whole.value; free = i.free.value; drawn = i.drawn.value } in let h = c.c.invariant in let z = i.place.table_id in let me = i.place.me in let stream = words_of i.draws in let v = c.c.view_is in
     let p = c.deny_give_by.new.place in let what = c.args.what in let addr = c.args.addr in let told = c.deny_give_by.ensures.told in
     let w = ap (λ (t : Token). t.whole) v ∙ c.requires.whole in
     let out = ap (λ (t : Token). t.out) v ∙ c.requires.lock.1 in

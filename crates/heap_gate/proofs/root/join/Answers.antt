@@ -29,27 +29,27 @@ hear-requires-clause-root g c =
     let r = c.root.inside in let i = c.c.inside in
     (_, root_taken r.place.me c.take_in.new.place.me i.place.me.0 r.made i.number c.root.invariant c.c.invariant.role c.take_in.ensures.1)
 
-both : (g : _) (c : goal.After-hear g) → let r = c.root.inside in let i = c.c.inside in IsRoot c.hear.new.place.me r.made × HasJoined (root_token r.place.table_id r.place.me) (tok i.place.table_id i.place.me (record { number = i.number; prepared = i.prepared.items; pending = i.pending; call = i.call; fresh = i.fresh; locked = i.locked; inside = i.inside; depth = i.depth; whole = i.whole; free = i.free; drawn = i.drawn })) (root_token c.hear.new.place.table_id c.hear.new.place.me)
+both : (g : _) (c : goal.After-hear g) → let r = c.root.inside in let i = c.c.inside in IsRoot c.hear.new.place.me r.made × HasJoined (root_token r.place.table_id r.place.me) (tok i.place.table_id i.place.me (record { number = i.number; prepared = i.prepared.items; pending = i.pending; call = i.call.value; fresh = i.fresh.value; locked = i.locked.value; inside = i.inside; depth = i.depth; whole = i.whole.value; free = i.free.value; drawn = i.drawn.value })) (root_token c.hear.new.place.table_id c.hear.new.place.me)
 both g c =
     let r = c.root.inside in let i = c.c.inside in let h = c.c.invariant in let v = c.c.view_is in
-    let f : Face = record { number = i.number; prepared = i.prepared.items; pending = i.pending; call = i.call; fresh = i.fresh; locked = i.locked; inside = i.inside; depth = i.depth; whole = i.whole; free = i.free; drawn = i.drawn } in
+    let f : Face = record { number = i.number; prepared = i.prepared.items; pending = i.pending; call = i.call.value; fresh = i.fresh.value; locked = i.locked.value; inside = i.inside; depth = i.depth; whole = i.whole.value; free = i.free.value; drawn = i.drawn.value } in
     let st : Step (Option g.row.T.Denot) = step c.heap.inside.table.shared.table_id.slots 0 0 0 none in
     let inside : i.inside ≡ false = ap (λ (t : Token). t.inside) v ∙ c.requires.outside in
     let depth : i.depth ≡ 0 = ap (λ (t : Token). t.depth) v ∙ c.requires.free in
     let out : outs i.place.me.1 ≡ [] = ap (λ (t : Token). t.out) v ∙ c.requires.out in
     let prepared : i.prepared.items ≡ [] = ap (λ (t : Token). t.prepared) v ∙ c.requires.prepared in
-    let free : i.free ≡ true = h.even.rests inside in
+    let free : i.free.value ≡ true = h.even.rests inside in
     let opening : r.place.me.0.opening ≡ i.place.me.0.opening = ap (λ (t : RootToken). t.opening) c.root.view_is ∙ (c.requires.openings.0 ∙ (sym c.requires.openings.1 ∙ ap (λ (t : Token). t.opening) (sym v))) in
     root_joined r.place.table_id c.hear.new.place.table_id (tok i.place.table_id i.place.me f) r.place.me c.take_in.new.place.me c.hear.new.place.me i.place.me.0 r.made c.hear.ensures.told.0 st
     (c.hear.ensures.table ∙ c.take_in.ensures.0) c.root.invariant h.role refl refl c.take_in.ensures.1 c.hear.ensures.told.1
     (λ s q.
     let at = h.at s (subst (λ (o : Opening). IsSettingOf o i.place.me.0.roll s) opening q) in
-    idle_of (configuration_of s i.place.me.0.seen) i.number i.call i.fresh i.whole
-    (subst (λ (x : List Entry). IsAt (configuration_after s (configuration_of s i.place.me.0.seen) x) i.number i.call i.fresh false 0 [] i.whole true) prepared
-    (subst (λ (d : ℕ). IsAt (configuration_after s (configuration_of s i.place.me.0.seen) i.prepared.items) i.number i.call i.fresh false d [] i.whole true) depth
-    (subst (λ (o : List ℕ). IsAt (configuration_after s (configuration_of s i.place.me.0.seen) i.prepared.items) i.number i.call i.fresh false i.depth o i.whole true) out
-    (subst (λ (b : Bool). IsAt (configuration_after s (configuration_of s i.place.me.0.seen) i.prepared.items) i.number i.call i.fresh false i.depth (outs i.place.me.1) i.whole b) free
-    (subst (λ (b : Bool). IsAt (configuration_after s (configuration_of s i.place.me.0.seen) i.prepared.items) i.number i.call i.fresh b i.depth (outs i.place.me.1) i.whole i.free) inside at))))))
+    idle_of (configuration_of s i.place.me.0.seen) i.number i.call.value i.fresh.value i.whole.value
+    (subst (λ (x : List Entry). IsAt (configuration_after s (configuration_of s i.place.me.0.seen) x) i.number i.call.value i.fresh.value false 0 [] i.whole.value true) prepared
+    (subst (λ (d : ℕ). IsAt (configuration_after s (configuration_of s i.place.me.0.seen) i.prepared.items) i.number i.call.value i.fresh.value false d [] i.whole.value true) depth
+    (subst (λ (o : List ℕ). IsAt (configuration_after s (configuration_of s i.place.me.0.seen) i.prepared.items) i.number i.call.value i.fresh.value false i.depth o i.whole.value true) out
+    (subst (λ (b : Bool). IsAt (configuration_after s (configuration_of s i.place.me.0.seen) i.prepared.items) i.number i.call.value i.fresh.value false i.depth (outs i.place.me.1) i.whole.value b) free
+    (subst (λ (b : Bool). IsAt (configuration_after s (configuration_of s i.place.me.0.seen) i.prepared.items) i.number i.call.value i.fresh.value b i.depth (outs i.place.me.1) i.whole.value i.free.value) inside at))))))
 
 pub invariant_of-root : goal.invariant_of-root
 invariant_of-root g c = (both g c).0

@@ -1,5 +1,4 @@
-use Rattle.std.proofs.Common.{◌≡◌, ◌∙◌, List, true, false, None, sym, subst, ap, Option}
-use Rattle.heap_model.specs.declared.Entry.{Entry}
+use Rattle.std.proofs.Common.{◌≡◌, ◌∙◌, List, false, sym, subst, ap, Option}
 use Rattle.random_pick.specs.CallerDraws.{words_of}
 use Rattle.std.proofs.Common.{◌<◌, length}
 use mathlib.Core.Option.{none}
@@ -7,7 +6,7 @@ use Rattle.atomic_table.specs.Table.{Step, step}
 use Rattle.claim_rule.specs.declared.views.Assignment.{Assignment}
 use Rattle.heap_model.specs.declared.Opening.{Opening}
 use Rattle.heap_gate.specs.Token.{HeapToken, IsCaller}
-use Rattle.heap_gate.specs.Seated.{tok}
+use Rattle.heap_gate.specs.Seated.{Face, tok}
 use Rattle.heap_gate.specs.Roots.{RootToken, joined_of, roll_in, lists_of}
 use Rattle.heap_gate.proofs.Meeting.{root_made, counted_role, fresh}
 use Rattle.heap_gate.proofs.root.make_caller.Goals as goal
@@ -32,4 +31,5 @@ invariant_of-result g c =
     let f = fresh c.deal-place.result.table_id h.opening a c.count.new.place.me.0 (roll_in r.place.me.0.role) (joined_of r.place.me.0.role) (lists_of r.place.me.0.role) c.args.seed c.new-3.result c.deal-place.result.me r.made
     (counted_role r.place.me c.count.new.place.me r.made c.count.ensures.told.0 st k c.count.ensures.told.1)
     (c.count.ensures.told.1.opening ∙ opened) c.deal-place.ensures.seat.1 k.count_is few slot c.heap.invariant.valid.callers seed (c.new-3.ensures ∙ c.new-2.ensures) in
-    subst (λ (x : List Entry). IsCaller c.deal-place.result.me (tok c.deal-place.result.table_id c.deal-place.result.me (record { number = r.made; prepared = x; pending = false; call = None; fresh = false; locked = false; inside = false; depth = 0; whole = true; free = true; drawn = false })) c.args.slot (words_of c.new-3.result)) (sym c.new.ensures) f
+    subst (λ (x : Face). IsCaller c.deal-place.result.me (tok c.deal-place.result.table_id c.deal-place.result.me x) c.args.slot (words_of c.new-3.result))
+    (λ j. record { number = r.made; prepared = sym c.new.ensures j; pending = false; call = sym c.of.ensures j; fresh = sym c.of-2.ensures j; locked = sym c.of-3.ensures j; inside = false; depth = 0; whole = sym c.of-4.ensures j; free = sym c.of-5.ensures j; drawn = sym c.of-6.ensures j }) f

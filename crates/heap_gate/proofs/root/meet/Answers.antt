@@ -27,19 +27,19 @@ both g c =
 
 pub invariant_of-a : goal.invariant_of-a
 invariant_of-a g c =
-    let a = c.a.inside in let fa : Face = record { number = a.number; prepared = a.prepared.items; pending = a.pending; call = a.call; fresh = a.fresh; locked = a.locked; inside = a.inside; depth = a.depth; whole = a.whole; free = a.free; drawn = a.drawn } in
+    let a = c.a.inside in let fa : Face = record { number = a.number; prepared = a.prepared.items; pending = a.pending; call = a.call.value; fresh = a.fresh.value; locked = a.locked.value; inside = a.inside; depth = a.depth; whole = a.whole.value; free = a.free.value; drawn = a.drawn.value } in
     let none_left = ap (λ (t : Token). t.prepared) c.a.view_is ∙ c.requires.prepared.0 in
     caller_taken a.place.table_id a.place.me fa a.slot (words_of a.draws) c.a.invariant none_left c.agree-2.new.place.me c.relayed-news-2.new.place.me.0.roll c.relayed-news-2.new.place.me.0.seen (both g c).1 c.agree-2.new.place.table_id
 
 pub invariant_of-b : goal.invariant_of-b
 invariant_of-b g c =
-    let b = c.b.inside in let fb : Face = record { number = b.number; prepared = b.prepared.items; pending = b.pending; call = b.call; fresh = b.fresh; locked = b.locked; inside = b.inside; depth = b.depth; whole = b.whole; free = b.free; drawn = b.drawn } in
+    let b = c.b.inside in let fb : Face = record { number = b.number; prepared = b.prepared.items; pending = b.pending; call = b.call.value; fresh = b.fresh.value; locked = b.locked.value; inside = b.inside; depth = b.depth; whole = b.whole.value; free = b.free.value; drawn = b.drawn.value } in
     let none_left = ap (λ (t : Token). t.prepared) c.b.view_is ∙ c.requires.prepared.1 in
     caller_taken b.place.table_id b.place.me fb b.slot (words_of b.draws) c.b.invariant none_left c.relayed-news-2.new.place.me c.a.inside.place.me.0.roll c.a.inside.place.me.0.seen (both g c).0 c.relayed-news-2.new.place.table_id
 
 pub returns : goal.returns
 returns g c =
-    let a = c.a.inside in let fa : Face = record { number = a.number; prepared = a.prepared.items; pending = a.pending; call = a.call; fresh = a.fresh; locked = a.locked; inside = a.inside; depth = a.depth; whole = a.whole; free = a.free; drawn = a.drawn } in let b = c.b.inside in let fb : Face = record { number = b.number; prepared = b.prepared.items; pending = b.pending; call = b.call; fresh = b.fresh; locked = b.locked; inside = b.inside; depth = b.depth; whole = b.whole; free = b.free; drawn = b.drawn } in
+    let a = c.a.inside in let fa : Face = record { number = a.number; prepared = a.prepared.items; pending = a.pending; call = a.call.value; fresh = a.fresh.value; locked = a.locked.value; inside = a.inside; depth = a.depth; whole = a.whole.value; free = a.free.value; drawn = a.drawn.value } in let b = c.b.inside in let fb : Face = record { number = b.number; prepared = b.prepared.items; pending = b.pending; call = b.call.value; fresh = b.fresh.value; locked = b.locked.value; inside = b.inside; depth = b.depth; whole = b.whole.value; free = b.free.value; drawn = b.drawn.value } in
     let p = c.agree-2.new.place in let q = c.relayed-news-2.new.place in
     let P : Token → Type 0 = λ t. HaveMet t c.args.b.now (tok p.table_id p.me fa) (tok q.table_id q.me fb) in
     let Q : Token → Type 0 = λ t. HaveMet (tok a.place.table_id a.place.me fa) t (tok p.table_id p.me fa) (tok q.table_id q.me fb) in

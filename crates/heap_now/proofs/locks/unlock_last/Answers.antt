@@ -1,4 +1,4 @@
-use Rattle.std.proofs.Common.{◌≡◌, ◌∙◌, length, ap, subst, arith}
+use Rattle.std.proofs.Common.{◌≡◌, ◌∙◌, false, length, ap, subst, arith}
 use Rattle.std.specs.Prelude.{OnOk, OnErr}
 use Rattle.heap_gate.specs.Token.{Token}
 use Rattle.heap_gate.specs.Calls.{IsShallower}
@@ -27,5 +27,5 @@ pub returns : goal.returns
 returns c =
     let a = c.args.c.now in let b = c.unlock_gate-given.new.c in
     given_last a b c.requires.ready c.unlock_gate-given.result c.requires.last
-    (subst (λ (t : Token). OnOk c.unlock_gate-given.result (IsShallower t b)) c.begin.ensures c.unlock_gate-given.ensures.given)
+    (subst (λ (t : Token). OnOk c.unlock_gate-given.result (IsShallower false t b)) c.begin.ensures c.unlock_gate-given.ensures.given)
     (subst (λ (t : Token). OnErr c.unlock_gate-given.result ((t.depth ≡ 0) × (b ≡ t))) c.begin.ensures c.unlock_gate-given.ensures.refused)

@@ -1,7 +1,6 @@
 use Rattle.std.proofs.Common.{◌∙◌, inl}
 use Rattle.heap_model.specs.declared.Call.TheVariants as calls
 use Rattle.move_calls.specs.Moves.{MayTry}
-use Rattle.heap_now.specs.Reallocs.{realloc_answer}
 use Rattle.heap_now.proofs.Reallocated.{stays_inside, ends, keeps}
 use Rattle.heap_now.proofs.reallocs.realloc_now.Goals as goal
 

@@ -18,54 +18,47 @@ use Rattle.block_steps.specs.Blocks.{MayClear}
 use Rattle.lfh_claims.specs.Blocks.{HasCleared}
 use Rattle.lfh_claims.proofs.Acting.{may_in}
 use Rattle.lfh_claims.proofs.Exchanges.{clearing, cleared_face, has_cleared}
-use Rattle.lfh_claims.proofs.Looking.{is_there, one_index}
 use Rattle.lfh_claims.proofs.blocks.clear.Goals as goal
 
-pub unwrap-index-requires : goal.unwrap-index-requires
-unwrap-index-requires g c =
-    let number = c.requires.may.0 in
-    let s = setting_of c.args.c.now.opening c.args.c.now.roll in
-    let below = (c.requires.may.2 s (some_setting c.args.c.now.opening c.args.c.now.roll)).below in
-    let found = c.index_of.ensures.each number (record { index = below; address = sym c.requires.may.1 }) in
-    is_there c.index_of.result number found
-
-pub index_of-requires-clause-head : goal.index_of-requires-clause-head
-index_of-requires-clause-head g c =
+pub number_at-index-requires-clause-head : goal.number_at-index-requires-clause-head
+number_at-index-requires-clause-head g c =
     let v = subst AreValid (c.limits-limits.ensures.limits ∙ ap (λ (o : Opening). o.limits) (sym c.requires.table.1)) c.limits-limits.ensures.valid in
     let s = v.segments in let r = c.requires.there in omega arith
+
+pub number_at-index-requires-clause-block : goal.number_at-index-requires-clause-block
+number_at-index-requires-clause-block g c =
+    let s = setting_of c.args.c.now.opening c.args.c.now.roll in
+    (c.requires.may.0, record { index = (c.requires.may.2 s (some_setting c.args.c.now.opening c.args.c.now.roll)).below; address = sym c.requires.may.1 })
 
 pub bitmap_at-at-requires-clause-word : goal.bitmap_at-at-requires-clause-word
 bitmap_at-at-requires-clause-word g c =
     let number = c.requires.may.0 in
     let s = setting_of c.args.c.now.opening c.args.c.now.roll in
     let below = (c.requires.may.2 s (some_setting c.args.c.now.opening c.args.c.now.roll)).below in
-    let found = c.index_of.ensures.each number (record { index = below; address = sym c.requires.may.1 }) in
-    let is : number ≡ c.unwrap-index.result = one_index number c.unwrap-index.result (sym found ∙ c.unwrap-index.ensures) in
+    let is : number ≡ c.number_at-index.result = c.number_at-index.ensures number (record { index = below; address = sym c.requires.may.1 }) in
     let few = (few_blocks c.args.tag.bucket c.requires.bucket).1 in let same = c.from-number.ensures in omega arith
 
 pub clear_by-bits-requires-clause-may : goal.clear_by-bits-requires-clause-may
 clear_by-bits-requires-clause-may g c =
-    let i = c.c.inside in let f : Face = record { number = i.number; prepared = i.prepared.items; pending = i.pending; call = i.call; fresh = i.fresh; locked = i.locked; inside = i.inside; depth = i.depth; whole = i.whole; free = i.free; drawn = i.drawn } in let h = c.c.invariant in let z = i.place.table_id in let me = i.place.me in let stream = words_of i.draws in let v = c.c.view_is in
+    let i = c.c.inside in let f : Face = record { number = i.number; prepared = i.prepared.items; pending = i.pending; call = i.call.value; fresh = i.fresh.value; locked = i.locked.value; inside = i.inside; depth = i.depth; whole = i.whole.value; free = i.free.value; drawn = i.drawn.value } in let h = c.c.invariant in let z = i.place.table_id in let me = i.place.me in let stream = words_of i.draws in let v = c.c.view_is in
     let w = ap (λ (t : Token). t.whole) v ∙ c.requires.whole in
-    let tag = c.args.tag in let index = c.unwrap-index.result in
+    let tag = c.args.tag in let index = c.number_at-index.result in
     let number = c.requires.may.0 in
     let s = setting_of c.args.c.now.opening c.args.c.now.roll in
     let below = (c.requires.may.2 s (some_setting c.args.c.now.opening c.args.c.now.roll)).below in
-    let found = c.index_of.ensures.each number (record { index = below; address = sym c.requires.may.1 }) in
-    let is : number ≡ c.unwrap-index.result = one_index number c.unwrap-index.result (sym found ∙ c.unwrap-index.ensures) in
+    let is : number ≡ c.number_at-index.result = c.number_at-index.ensures number (record { index = below; address = sym c.requires.may.1 }) in
     let may = subst (λ (t : Token). Always t (λ s. MayClear s (now s t) t.number tag.head tag.bucket tag.slot index)) (sym v) (subst (λ (k : ℕ). Always c.args.c.now (λ s. MayClear s (now s c.args.c.now) c.args.c.now.number tag.head tag.bucket tag.slot k)) is c.requires.may.2) in
     may_in z me f i.slot stream h w (λ s m n. MayClear s m n tag.head tag.bucket tag.slot index) may
 
 pub invariant_of-c : goal.invariant_of-c
 invariant_of-c g c =
-    let i = c.c.inside in let f : Face = record { number = i.number; prepared = i.prepared.items; pending = i.pending; call = i.call; fresh = i.fresh; locked = i.locked; inside = i.inside; depth = i.depth; whole = i.whole; free = i.free; drawn = i.drawn } in let h = c.c.invariant in let z = i.place.table_id in let me = i.place.me in let stream = words_of i.draws in let v = c.c.view_is in
+    let i = c.c.inside in let f : Face = record { number = i.number; prepared = i.prepared.items; pending = i.pending; call = i.call.value; fresh = i.fresh.value; locked = i.locked.value; inside = i.inside; depth = i.depth; whole = i.whole.value; free = i.free.value; drawn = i.drawn.value } in let h = c.c.invariant in let z = i.place.table_id in let me = i.place.me in let stream = words_of i.draws in let v = c.c.view_is in
     let w = ap (λ (t : Token). t.whole) v ∙ c.requires.whole in
-    let tag = c.args.tag in let index = c.unwrap-index.result in
+    let tag = c.args.tag in let index = c.number_at-index.result in
     let number = c.requires.may.0 in
     let s = setting_of c.args.c.now.opening c.args.c.now.roll in
     let below = (c.requires.may.2 s (some_setting c.args.c.now.opening c.args.c.now.roll)).below in
-    let found = c.index_of.ensures.each number (record { index = below; address = sym c.requires.may.1 }) in
-    let is : number ≡ c.unwrap-index.result = one_index number c.unwrap-index.result (sym found ∙ c.unwrap-index.ensures) in
+    let is : number ≡ c.number_at-index.result = c.number_at-index.ensures number (record { index = below; address = sym c.requires.may.1 }) in
     let may = subst (λ (t : Token). Always t (λ s. MayClear s (now s t) t.number tag.head tag.bucket tag.slot index)) (sym v) (subst (λ (k : ℕ). Always c.args.c.now (λ s. MayClear s (now s c.args.c.now) c.args.c.now.number tag.head tag.bucket tag.slot k)) is c.requires.may.2) in
     let p = c.clear_by-bits.new.place in let told = c.clear_by-bits.ensures.told in
     let addr = c.args.addr in
@@ -76,14 +69,13 @@ invariant_of-c g c =
 
 pub returns : goal.returns
 returns g c =
-    let i = c.c.inside in let f : Face = record { number = i.number; prepared = i.prepared.items; pending = i.pending; call = i.call; fresh = i.fresh; locked = i.locked; inside = i.inside; depth = i.depth; whole = i.whole; free = i.free; drawn = i.drawn } in let h = c.c.invariant in let z = i.place.table_id in let me = i.place.me in let stream = words_of i.draws in let v = c.c.view_is in
+    let i = c.c.inside in let f : Face = record { number = i.number; prepared = i.prepared.items; pending = i.pending; call = i.call.value; fresh = i.fresh.value; locked = i.locked.value; inside = i.inside; depth = i.depth; whole = i.whole.value; free = i.free.value; drawn = i.drawn.value } in let h = c.c.invariant in let z = i.place.table_id in let me = i.place.me in let stream = words_of i.draws in let v = c.c.view_is in
     let w = ap (λ (t : Token). t.whole) v ∙ c.requires.whole in
-    let tag = c.args.tag in let index = c.unwrap-index.result in
+    let tag = c.args.tag in let index = c.number_at-index.result in
     let number = c.requires.may.0 in
     let s = setting_of c.args.c.now.opening c.args.c.now.roll in
     let below = (c.requires.may.2 s (some_setting c.args.c.now.opening c.args.c.now.roll)).below in
-    let found = c.index_of.ensures.each number (record { index = below; address = sym c.requires.may.1 }) in
-    let is : number ≡ c.unwrap-index.result = one_index number c.unwrap-index.result (sym found ∙ c.unwrap-index.ensures) in
+    let is : number ≡ c.number_at-index.result = c.number_at-index.ensures number (record { index = below; address = sym c.requires.may.1 }) in
     let may = subst (λ (t : Token). Always t (λ s. MayClear s (now s t) t.number tag.head tag.bucket tag.slot index)) (sym v) (subst (λ (k : ℕ). Always c.args.c.now (λ s. MayClear s (now s c.args.c.now) c.args.c.now.number tag.head tag.bucket tag.slot k)) is c.requires.may.2) in
     let p = c.clear_by-bits.new.place in let told = c.clear_by-bits.ensures.told in
     let addr = c.args.addr in

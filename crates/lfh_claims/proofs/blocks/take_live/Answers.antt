@@ -1,8 +1,8 @@
-use Rattle.std.proofs.Common.{◌-◌, ◌∙◌, [], ◌∷◌, sym, subst, ap}
+use Rattle.std.proofs.Common.{◌-◌, ◌∙◌, Bool, false, [], ◌∷◌, sym, subst, ap}
 use Rattle.random_pick.specs.CallerDraws.{words_of}
 use Rattle.heap_model.specs.declared.Act.TheVariants as acts
 use Rattle.claim_rule.specs.Entries.{entry}
-use Rattle.heap_gate.specs.Token.{Token, Always, now}
+use Rattle.heap_gate.specs.Token.{Token, IsCaller, Always, now}
 use Rattle.heap_gate.specs.Seated.{Face, tok}
 use Rattle.heap_gate.proofs.Tokens.{goes_by, as_was, faced}
 use Rattle.block_steps.specs.Blocks.{MayAsk}
@@ -13,7 +13,7 @@ use Rattle.lfh_claims.proofs.blocks.take_live.Goals as goal
 
 pub take_by-word-requires-clause-may : goal.take_by-word-requires-clause-may
 take_by-word-requires-clause-may g c =
-    let i = c.c.inside in let f : Face = record { number = i.number; prepared = i.prepared.items; pending = i.pending; call = i.call; fresh = i.fresh; locked = i.locked; inside = i.inside; depth = i.depth; whole = i.whole; free = i.free; drawn = i.drawn } in let h = c.c.invariant in let z = i.place.table_id in let me = i.place.me in let stream = words_of i.draws in let v = c.c.view_is in
+    let i = c.c.inside in let f : Face = record { number = i.number; prepared = i.prepared.items; pending = i.pending; call = i.call.value; fresh = i.fresh.value; locked = i.locked.value; inside = i.inside; depth = i.depth; whole = i.whole.value; free = i.free.value; drawn = i.drawn.value } in let h = c.c.invariant in let z = i.place.table_id in let me = i.place.me in let stream = words_of i.draws in let v = c.c.view_is in
     let w = ap (λ (t : Token). t.whole) v ∙ c.requires.whole in
     let tag = c.args.tag in let addr = c.args.addr in
     let may = subst (λ (t : Token). Always t (λ s. MayAsk (now s t) t.number tag.head tag.bucket tag.slot addr)) (sym v) c.requires.may in
@@ -21,7 +21,7 @@ take_by-word-requires-clause-may g c =
 
 pub invariant_of-c : goal.invariant_of-c
 invariant_of-c g c =
-    let i = c.c.inside in let f : Face = record { number = i.number; prepared = i.prepared.items; pending = i.pending; call = i.call; fresh = i.fresh; locked = i.locked; inside = i.inside; depth = i.depth; whole = i.whole; free = i.free; drawn = i.drawn } in let h = c.c.invariant in let z = i.place.table_id in let me = i.place.me in let stream = words_of i.draws in let v = c.c.view_is in
+    let i = c.c.inside in let f : Face = record { number = i.number; prepared = i.prepared.items; pending = i.pending; call = i.call.value; fresh = i.fresh.value; locked = i.locked.value; inside = i.inside; depth = i.depth; whole = i.whole.value; free = i.free.value; drawn = i.drawn.value } in let h = c.c.invariant in let z = i.place.table_id in let me = i.place.me in let stream = words_of i.draws in let v = c.c.view_is in
     let w = ap (λ (t : Token). t.whole) v ∙ c.requires.whole in
     let p = c.take_by-word.new.place in let told = c.take_by-word.ensures.told in
     let tag = c.args.tag in let addr = c.args.addr in let word = c.take_by-word.result in
@@ -31,7 +31,7 @@ invariant_of-c g c =
 
 pub returns-then-word-eq0-clause-none : goal.returns-then-word-eq0-clause-none
 returns-then-word-eq0-clause-none g c =
-    let i = c.c.inside in let f : Face = record { number = i.number; prepared = i.prepared.items; pending = i.pending; call = i.call; fresh = i.fresh; locked = i.locked; inside = i.inside; depth = i.depth; whole = i.whole; free = i.free; drawn = i.drawn } in let h = c.c.invariant in let z = i.place.table_id in let me = i.place.me in let stream = words_of i.draws in let v = c.c.view_is in
+    let i = c.c.inside in let f : Face = record { number = i.number; prepared = i.prepared.items; pending = i.pending; call = i.call.value; fresh = i.fresh.value; locked = i.locked.value; inside = i.inside; depth = i.depth; whole = i.whole.value; free = i.free.value; drawn = i.drawn.value } in let h = c.c.invariant in let z = i.place.table_id in let me = i.place.me in let stream = words_of i.draws in let v = c.c.view_is in
     let w = ap (λ (t : Token). t.whole) v ∙ c.requires.whole in
     let p = c.take_by-word.new.place in let told = c.take_by-word.ensures.told in
     let tag = c.args.tag in let addr = c.args.addr in let word = c.take_by-word.result in
@@ -41,22 +41,24 @@ returns-then-word-eq0-clause-none g c =
 
 pub invariant_of-c-2 : goal.invariant_of-c-2
 invariant_of-c-2 g c =
-    let i = c.c.inside in let f : Face = record { number = i.number; prepared = i.prepared.items; pending = i.pending; call = i.call; fresh = i.fresh; locked = i.locked; inside = i.inside; depth = i.depth; whole = i.whole; free = i.free; drawn = i.drawn } in let h = c.c.invariant in let z = i.place.table_id in let me = i.place.me in let stream = words_of i.draws in let v = c.c.view_is in
+    let i = c.c.inside in let f : Face = record { number = i.number; prepared = i.prepared.items; pending = i.pending; call = i.call.value; fresh = i.fresh.value; locked = i.locked.value; inside = i.inside; depth = i.depth; whole = i.whole.value; free = i.free.value; drawn = i.drawn.value } in let h = c.c.invariant in let z = i.place.table_id in let me = i.place.me in let stream = words_of i.draws in let v = c.c.view_is in
     let w = ap (λ (t : Token). t.whole) v ∙ c.requires.whole in
     let p = c.take_by-word.new.place in let told = c.take_by-word.ensures.told in
     let tag = c.args.tag in let addr = c.args.addr in let word = c.take_by-word.result in
     let in_is = ap (λ (t : Token). t.inside) v ∙ c.requires.inside in
     let live = told.live c.if-word-eq0.false in
     let go = goes_by z me f i.slot stream h p.me.0 (λ n. entry n (acts.Take addr (word - 1)) ∷ []) live.adds in
-    (taking_block z me f i.slot stream h w p.me live.slot p.table_id c.take_by-word.ensures.table c.clear.new.self.items c.clear.ensures in_is live.owes tag addr (word - 1) go live.number live.tells).caller
+    subst (λ (b : Bool). IsCaller p.me (tok p.table_id p.me (record { number = i.number; prepared = c.clear.new.self.items; pending = false; call = i.call.value; fresh = i.fresh.value; locked = i.locked.value; inside = i.inside; depth = i.depth; whole = i.whole.value; free = b; drawn = i.drawn.value })) i.slot stream) (sym c.of-c-inside.ensures)
+    ((taking_block z me f i.slot stream h w p.me live.slot p.table_id c.take_by-word.ensures.table c.clear.new.self.items c.clear.ensures in_is live.owes tag addr (word - 1) go live.number live.tells).caller)
 
 pub returns-clause-taken : goal.returns-clause-taken
 returns-clause-taken g c =
-    let i = c.c.inside in let f : Face = record { number = i.number; prepared = i.prepared.items; pending = i.pending; call = i.call; fresh = i.fresh; locked = i.locked; inside = i.inside; depth = i.depth; whole = i.whole; free = i.free; drawn = i.drawn } in let h = c.c.invariant in let z = i.place.table_id in let me = i.place.me in let stream = words_of i.draws in let v = c.c.view_is in
+    let i = c.c.inside in let f : Face = record { number = i.number; prepared = i.prepared.items; pending = i.pending; call = i.call.value; fresh = i.fresh.value; locked = i.locked.value; inside = i.inside; depth = i.depth; whole = i.whole.value; free = i.free.value; drawn = i.drawn.value } in let h = c.c.invariant in let z = i.place.table_id in let me = i.place.me in let stream = words_of i.draws in let v = c.c.view_is in
     let w = ap (λ (t : Token). t.whole) v ∙ c.requires.whole in
     let p = c.take_by-word.new.place in let told = c.take_by-word.ensures.told in
     let tag = c.args.tag in let addr = c.args.addr in let word = c.take_by-word.result in
     let in_is = ap (λ (t : Token). t.inside) v ∙ c.requires.inside in
     let live = told.live c.if-word-eq0.false in
     let go = goes_by z me f i.slot stream h p.me.0 (λ n. entry n (acts.Take addr (word - 1)) ∷ []) live.adds in
-    subst (λ (t : Token). HasTakenLive t (tok p.table_id p.me (taken_face z me f i.slot stream h w p.me live.slot p.table_id c.take_by-word.ensures.table c.clear.new.self.items c.clear.ensures in_is live.owes tag addr (word - 1) go live.number live.tells)) tag addr (word - 1)) v (has_taken_live z me f i.slot stream h w p.me live.slot p.table_id c.take_by-word.ensures.table c.clear.new.self.items c.clear.ensures in_is live.owes tag addr (word - 1) go live.number live.tells)
+    subst (λ (b : Bool). HasTakenLive c.args.c.now (tok p.table_id p.me (record { number = i.number; prepared = c.clear.new.self.items; pending = false; call = i.call.value; fresh = i.fresh.value; locked = i.locked.value; inside = i.inside; depth = i.depth; whole = i.whole.value; free = b; drawn = i.drawn.value })) tag addr (word - 1)) (sym c.of-c-inside.ensures)
+    (subst (λ (t : Token). HasTakenLive t (tok p.table_id p.me (taken_face z me f i.slot stream h w p.me live.slot p.table_id c.take_by-word.ensures.table c.clear.new.self.items c.clear.ensures in_is live.owes tag addr (word - 1) go live.number live.tells)) tag addr (word - 1)) v (has_taken_live z me f i.slot stream h w p.me live.slot p.table_id c.take_by-word.ensures.table c.clear.new.self.items c.clear.ensures in_is live.owes tag addr (word - 1) go live.number live.tells))

@@ -1,8 +1,8 @@
-use Rattle.std.proofs.Common.{◌≡◌, ◌/◌, ◌%◌, ◌^◌, ◌∙◌, ℕ, [], ◌∷◌, sym, subst, ap}
+use Rattle.std.proofs.Common.{◌≡◌, ◌/◌, ◌%◌, ◌^◌, ◌∙◌, ℕ, Bool, false, [], ◌∷◌, sym, subst, ap}
 use Rattle.random_pick.specs.CallerDraws.{words_of}
 use Rattle.heap_model.specs.declared.Act.TheVariants as acts
 use Rattle.claim_rule.specs.Entries.{entry}
-use Rattle.heap_gate.specs.Token.{Token, Always, now}
+use Rattle.heap_gate.specs.Token.{Token, IsCaller, Always, now}
 use Rattle.heap_gate.specs.Seated.{Face, tok}
 use Rattle.heap_gate.proofs.Tokens.{goes_by}
 use Rattle.heap_model.specs.declared.Layer.TheVariants as layers
@@ -18,7 +18,7 @@ use Rattle.lfh_claims.proofs.search.claim.Goals as goal
 
 pub claim_by-bits-requires-clause-may : goal.claim_by-bits-requires-clause-may
 claim_by-bits-requires-clause-may g c =
-    let i = c.c.inside in let f : Face = record { number = i.number; prepared = i.prepared.items; pending = i.pending; call = i.call; fresh = i.fresh; locked = i.locked; inside = i.inside; depth = i.depth; whole = i.whole; free = i.free; drawn = i.drawn } in let h = c.c.invariant in let z = i.place.table_id in let me = i.place.me in let stream = words_of i.draws in let v = c.c.view_is in
+    let i = c.c.inside in let f : Face = record { number = i.number; prepared = i.prepared.items; pending = i.pending; call = i.call.value; fresh = i.fresh.value; locked = i.locked.value; inside = i.inside; depth = i.depth; whole = i.whole.value; free = i.free.value; drawn = i.drawn.value } in let h = c.c.invariant in let z = i.place.table_id in let me = i.place.me in let stream = words_of i.draws in let v = c.c.view_is in
     let w = ap (λ (t : Token). t.whole) v ∙ c.requires.whole in
     let head = c.args.head in let index = c.args.index in
     let may = subst (λ (t : Token). Always t (λ s. MayClaim s (now s t) t.number head (sought t) (own_slot t) index)) (sym v) c.requires.may in
@@ -28,7 +28,7 @@ claim_by-bits-requires-clause-may g c =
 
 pub invariant_of-c : goal.invariant_of-c
 invariant_of-c g c =
-    let i = c.c.inside in let f : Face = record { number = i.number; prepared = i.prepared.items; pending = i.pending; call = i.call; fresh = i.fresh; locked = i.locked; inside = i.inside; depth = i.depth; whole = i.whole; free = i.free; drawn = i.drawn } in let h = c.c.invariant in let z = i.place.table_id in let me = i.place.me in let stream = words_of i.draws in let v = c.c.view_is in
+    let i = c.c.inside in let f : Face = record { number = i.number; prepared = i.prepared.items; pending = i.pending; call = i.call.value; fresh = i.fresh.value; locked = i.locked.value; inside = i.inside; depth = i.depth; whole = i.whole.value; free = i.free.value; drawn = i.drawn.value } in let h = c.c.invariant in let z = i.place.table_id in let me = i.place.me in let stream = words_of i.draws in let v = c.c.view_is in
     let w = ap (λ (t : Token). t.whole) v ∙ c.requires.whole in
     let in_is = ap (λ (t : Token). t.inside) v ∙ c.requires.inside in
     let p = c.claim_by-bits.new.place in let told = c.claim_by-bits.ensures.told in
@@ -36,11 +36,12 @@ invariant_of-c g c =
     let zero = subst (λ (k : ℕ). bits / 2 ^ (k % 64) % 2 ≡ 0) c.from-number.ensures c.if-free.true in
     let free = told.free (clear_bit (bits / 2 ^ (index % 64)) zero) in
     let go = goes_by z me f i.slot stream h p.me.0 (λ n. entry n (acts.Place (block_address (sought (tok z me f)) head index) (block_size (sought (tok z me f)) / 16) layers.Lfh) ∷ []) free.adds in
-    (claiming z me f i.slot stream h w in_is p.me free.slot p.table_id c.claim_by-bits.ensures.table c.clear.new.self.items c.clear.ensures head index free.owes go).caller
+    subst (λ (b : Bool). IsCaller p.me (tok p.table_id p.me (record { number = i.number; prepared = c.clear.new.self.items; pending = false; call = i.call.value; fresh = i.fresh.value; locked = i.locked.value; inside = i.inside; depth = i.depth; whole = i.whole.value; free = b; drawn = i.drawn.value })) i.slot stream) (sym c.of-c-inside.ensures)
+    ((claiming z me f i.slot stream h w in_is p.me free.slot p.table_id c.claim_by-bits.ensures.table c.clear.new.self.items c.clear.ensures head index free.owes go).caller)
 
 pub invariant_of-c-else-free : goal.invariant_of-c-else-free
 invariant_of-c-else-free g c =
-    let i = c.c.inside in let f : Face = record { number = i.number; prepared = i.prepared.items; pending = i.pending; call = i.call; fresh = i.fresh; locked = i.locked; inside = i.inside; depth = i.depth; whole = i.whole; free = i.free; drawn = i.drawn } in let h = c.c.invariant in let z = i.place.table_id in let me = i.place.me in let stream = words_of i.draws in let v = c.c.view_is in
+    let i = c.c.inside in let f : Face = record { number = i.number; prepared = i.prepared.items; pending = i.pending; call = i.call.value; fresh = i.fresh.value; locked = i.locked.value; inside = i.inside; depth = i.depth; whole = i.whole.value; free = i.free.value; drawn = i.drawn.value } in let h = c.c.invariant in let z = i.place.table_id in let me = i.place.me in let stream = words_of i.draws in let v = c.c.view_is in
     let w = ap (λ (t : Token). t.whole) v ∙ c.requires.whole in
     let in_is = ap (λ (t : Token). t.inside) v ∙ c.requires.inside in
     let p = c.claim_by-bits.new.place in let told = c.claim_by-bits.ensures.told in
@@ -52,7 +53,7 @@ invariant_of-c-else-free g c =
 
 pub returns-then-free-clause-claimed : goal.returns-then-free-clause-claimed
 returns-then-free-clause-claimed g c =
-    let i = c.c.inside in let f : Face = record { number = i.number; prepared = i.prepared.items; pending = i.pending; call = i.call; fresh = i.fresh; locked = i.locked; inside = i.inside; depth = i.depth; whole = i.whole; free = i.free; drawn = i.drawn } in let h = c.c.invariant in let z = i.place.table_id in let me = i.place.me in let stream = words_of i.draws in let v = c.c.view_is in
+    let i = c.c.inside in let f : Face = record { number = i.number; prepared = i.prepared.items; pending = i.pending; call = i.call.value; fresh = i.fresh.value; locked = i.locked.value; inside = i.inside; depth = i.depth; whole = i.whole.value; free = i.free.value; drawn = i.drawn.value } in let h = c.c.invariant in let z = i.place.table_id in let me = i.place.me in let stream = words_of i.draws in let v = c.c.view_is in
     let w = ap (λ (t : Token). t.whole) v ∙ c.requires.whole in
     let in_is = ap (λ (t : Token). t.inside) v ∙ c.requires.inside in
     let p = c.claim_by-bits.new.place in let told = c.claim_by-bits.ensures.told in
@@ -60,11 +61,12 @@ returns-then-free-clause-claimed g c =
     let zero = subst (λ (k : ℕ). bits / 2 ^ (k % 64) % 2 ≡ 0) c.from-number.ensures c.if-free.true in
     let free = told.free (clear_bit (bits / 2 ^ (index % 64)) zero) in
     let go = goes_by z me f i.slot stream h p.me.0 (λ n. entry n (acts.Place (block_address (sought (tok z me f)) head index) (block_size (sought (tok z me f)) / 16) layers.Lfh) ∷ []) free.adds in
-    λ _. subst (λ (t : Token). HasClaimed t (tok p.table_id p.me (claimed_face z me f i.slot stream h w in_is p.me free.slot p.table_id c.claim_by-bits.ensures.table c.clear.new.self.items c.clear.ensures head index free.owes go)) head index) v (has_claimed z me f i.slot stream h w in_is p.me free.slot p.table_id c.claim_by-bits.ensures.table c.clear.new.self.items c.clear.ensures head index free.owes go free.tells)
+    λ _. subst (λ (b : Bool). HasClaimed c.args.c.now (tok p.table_id p.me (record { number = i.number; prepared = c.clear.new.self.items; pending = false; call = i.call.value; fresh = i.fresh.value; locked = i.locked.value; inside = i.inside; depth = i.depth; whole = i.whole.value; free = b; drawn = i.drawn.value })) head index) (sym c.of-c-inside.ensures)
+    (subst (λ (t : Token). HasClaimed t (tok p.table_id p.me (claimed_face z me f i.slot stream h w in_is p.me free.slot p.table_id c.claim_by-bits.ensures.table c.clear.new.self.items c.clear.ensures head index free.owes go)) head index) v (has_claimed z me f i.slot stream h w in_is p.me free.slot p.table_id c.claim_by-bits.ensures.table c.clear.new.self.items c.clear.ensures head index free.owes go free.tells))
 
 pub returns-else-free-clause-lost : goal.returns-else-free-clause-lost
 returns-else-free-clause-lost g c =
-    let i = c.c.inside in let f : Face = record { number = i.number; prepared = i.prepared.items; pending = i.pending; call = i.call; fresh = i.fresh; locked = i.locked; inside = i.inside; depth = i.depth; whole = i.whole; free = i.free; drawn = i.drawn } in let h = c.c.invariant in let z = i.place.table_id in let me = i.place.me in let stream = words_of i.draws in let v = c.c.view_is in
+    let i = c.c.inside in let f : Face = record { number = i.number; prepared = i.prepared.items; pending = i.pending; call = i.call.value; fresh = i.fresh.value; locked = i.locked.value; inside = i.inside; depth = i.depth; whole = i.whole.value; free = i.free.value; drawn = i.drawn.value } in let h = c.c.invariant in let z = i.place.table_id in let me = i.place.me in let stream = words_of i.draws in let v = c.c.view_is in
     let w = ap (λ (t : Token). t.whole) v ∙ c.requires.whole in
     let in_is = ap (λ (t : Token). t.inside) v ∙ c.requires.inside in
     let p = c.claim_by-bits.new.place in let told = c.claim_by-bits.ensures.told in

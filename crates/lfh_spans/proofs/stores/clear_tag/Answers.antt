@@ -13,14 +13,14 @@ use Rattle.lfh_spans.proofs.stores.clear_tag.Goals as goal
 
 pub clear_tag_by-requires-clause-may : goal.clear_tag_by-requires-clause-may
 clear_tag_by-requires-clause-may g c =
-    let i = c.c.inside in let f : Face = record { number = i.number; prepared = i.prepared.items; pending = i.pending; call = i.call; fresh = i.fresh; locked = i.locked; inside = i.inside; depth = i.depth; whole = i.whole; free = i.free; drawn = i.drawn } in let h = c.c.invariant in let z = i.place.table_id in let me = i.place.me in let stream = words_of i.draws in let v = c.c.view_is in
+    let i = c.c.inside in let f : Face = record { number = i.number; prepared = i.prepared.items; pending = i.pending; call = i.call.value; fresh = i.fresh.value; locked = i.locked.value; inside = i.inside; depth = i.depth; whole = i.whole.value; free = i.free.value; drawn = i.drawn.value } in let h = c.c.invariant in let z = i.place.table_id in let me = i.place.me in let stream = words_of i.draws in let v = c.c.view_is in
     let o = ap (λ (t : Token). is_out whats.Back t.out) v ∙ c.requires.held in
     let d = ap (λ (t : Token). t.depth == 0) v ∙ c.requires.owner in
     may_by z me f i.slot stream h (λ m n. (holds m.state.gate n whats.Back ≡ true) × (is_caller n m.state.gate.owner ≡ true)) (λ s q. (has_back z me f i.slot stream h o s q, has_lock z me f i.slot stream h d s q))
 
 pub invariant_of-c : goal.invariant_of-c
 invariant_of-c g c =
-    let i = c.c.inside in let f : Face = record { number = i.number; prepared = i.prepared.items; pending = i.pending; call = i.call; fresh = i.fresh; locked = i.locked; inside = i.inside; depth = i.depth; whole = i.whole; free = i.free; drawn = i.drawn } in let h = c.c.invariant in let z = i.place.table_id in let me = i.place.me in let stream = words_of i.draws in let v = c.c.view_is in
+    let i = c.c.inside in let f : Face = record { number = i.number; prepared = i.prepared.items; pending = i.pending; call = i.call.value; fresh = i.fresh.value; locked = i.locked.value; inside = i.inside; depth = i.depth; whole = i.whole.value; free = i.free.value; drawn = i.drawn.value } in let h = c.c.invariant in let z = i.place.table_id in let me = i.place.me in let stream = words_of i.draws in let v = c.c.view_is in
     let p = c.clear_tag_by.new.place in let told = c.clear_tag_by.ensures.told in
     let w = ap (λ (t : Token). t.whole) v ∙ c.requires.whole in
     let go = goes_by z me f i.slot stream h p.me.0 (λ n. []) told.goes in
@@ -28,7 +28,7 @@ invariant_of-c g c =
 
 pub returns-clause-runs : goal.returns-clause-runs
 returns-clause-runs g c =
-    let i = c.c.inside in let f : Face = record { number = i.number; prepared = i.prepared.items; pending = i.pending; call = i.call; fresh = i.fresh; locked = i.locked; inside = i.inside; depth = i.depth; whole = i.whole; free = i.free; drawn = i.drawn } in let h = c.c.invariant in let z = i.place.table_id in let me = i.place.me in let stream = words_of i.draws in let v = c.c.view_is in
+    let i = c.c.inside in let f : Face = record { number = i.number; prepared = i.prepared.items; pending = i.pending; call = i.call.value; fresh = i.fresh.value; locked = i.locked.value; inside = i.inside; depth = i.depth; whole = i.whole.value; free = i.free.value; drawn = i.drawn.value } in let h = c.c.invariant in let z = i.place.table_id in let me = i.place.me in let stream = words_of i.draws in let v = c.c.view_is in
     let p = c.clear_tag_by.new.place in let told = c.clear_tag_by.ensures.told in
     let w = ap (λ (t : Token). t.whole) v ∙ c.requires.whole in
     let go = goes_by z me f i.slot stream h p.me.0 (λ n. []) told.goes in
@@ -36,7 +36,7 @@ returns-clause-runs g c =
 
 pub returns-clause-stands : goal.returns-clause-stands
 returns-clause-stands g c =
-    let i = c.c.inside in let f : Face = record { number = i.number; prepared = i.prepared.items; pending = i.pending; call = i.call; fresh = i.fresh; locked = i.locked; inside = i.inside; depth = i.depth; whole = i.whole; free = i.free; drawn = i.drawn } in let h = c.c.invariant in let z = i.place.table_id in let me = i.place.me in let stream = words_of i.draws in let v = c.c.view_is in
+    let i = c.c.inside in let f : Face = record { number = i.number; prepared = i.prepared.items; pending = i.pending; call = i.call.value; fresh = i.fresh.value; locked = i.locked.value; inside = i.inside; depth = i.depth; whole = i.whole.value; free = i.free.value; drawn = i.drawn.value } in let h = c.c.invariant in let z = i.place.table_id in let me = i.place.me in let stream = words_of i.draws in let v = c.c.view_is in
     let p = c.clear_tag_by.new.place in let told = c.clear_tag_by.ensures.told in
     let w = ap (λ (t : Token). t.whole) v ∙ c.requires.whole in
     let go = goes_by z me f i.slot stream h p.me.0 (λ n. []) told.goes in

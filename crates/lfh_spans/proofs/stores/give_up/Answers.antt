@@ -14,14 +14,14 @@ use Rattle.lfh_spans.proofs.stores.give_up.Goals as goal
 
 pub retire_by-requires-clause-may : goal.retire_by-requires-clause-may
 retire_by-requires-clause-may g c =
-    let i = c.c.inside in let f : Face = record { number = i.number; prepared = i.prepared.items; pending = i.pending; call = i.call; fresh = i.fresh; locked = i.locked; inside = i.inside; depth = i.depth; whole = i.whole; free = i.free; drawn = i.drawn } in let h = c.c.invariant in let z = i.place.table_id in let me = i.place.me in let stream = words_of i.draws in let v = c.c.view_is in
+    let i = c.c.inside in let f : Face = record { number = i.number; prepared = i.prepared.items; pending = i.pending; call = i.call.value; fresh = i.fresh.value; locked = i.locked.value; inside = i.inside; depth = i.depth; whole = i.whole.value; free = i.free.value; drawn = i.drawn.value } in let h = c.c.invariant in let z = i.place.table_id in let me = i.place.me in let stream = words_of i.draws in let v = c.c.view_is in
     let at = c.args.at in let hint = c.args.hint in
     λ s q. subst (λ (x : ℕ). MayRetire s (ready_after s me.0 f.prepared) x at.head at.pages at.bucket at.slot hint me.0.owes) (sym (ap number_of h.role))
     (subst (λ (t : Token). Always t (λ s. MayRetire s (now s t) t.number at.head at.pages at.bucket at.slot hint t.owes)) (sym v) c.requires.may s q)
 
 pub invariant_of-c : goal.invariant_of-c
 invariant_of-c g c =
-    let i = c.c.inside in let f : Face = record { number = i.number; prepared = i.prepared.items; pending = i.pending; call = i.call; fresh = i.fresh; locked = i.locked; inside = i.inside; depth = i.depth; whole = i.whole; free = i.free; drawn = i.drawn } in let h = c.c.invariant in let z = i.place.table_id in let me = i.place.me in let stream = words_of i.draws in let v = c.c.view_is in
+    let i = c.c.inside in let f : Face = record { number = i.number; prepared = i.prepared.items; pending = i.pending; call = i.call.value; fresh = i.fresh.value; locked = i.locked.value; inside = i.inside; depth = i.depth; whole = i.whole.value; free = i.free.value; drawn = i.drawn.value } in let h = c.c.invariant in let z = i.place.table_id in let me = i.place.me in let stream = words_of i.draws in let v = c.c.view_is in
     let at = c.args.at in
     let p = c.retire_by.new.place in let told = c.retire_by.ensures.told in
     let w = ap (λ (t : Token). t.whole) v ∙ c.requires.whole in
@@ -30,7 +30,7 @@ invariant_of-c g c =
 
 pub returns-clause-runs : goal.returns-clause-runs
 returns-clause-runs g c =
-    let i = c.c.inside in let f : Face = record { number = i.number; prepared = i.prepared.items; pending = i.pending; call = i.call; fresh = i.fresh; locked = i.locked; inside = i.inside; depth = i.depth; whole = i.whole; free = i.free; drawn = i.drawn } in let h = c.c.invariant in let z = i.place.table_id in let me = i.place.me in let stream = words_of i.draws in let v = c.c.view_is in
+    let i = c.c.inside in let f : Face = record { number = i.number; prepared = i.prepared.items; pending = i.pending; call = i.call.value; fresh = i.fresh.value; locked = i.locked.value; inside = i.inside; depth = i.depth; whole = i.whole.value; free = i.free.value; drawn = i.drawn.value } in let h = c.c.invariant in let z = i.place.table_id in let me = i.place.me in let stream = words_of i.draws in let v = c.c.view_is in
     let at = c.args.at in
     let p = c.retire_by.new.place in let told = c.retire_by.ensures.told in
     let w = ap (λ (t : Token). t.whole) v ∙ c.requires.whole in
@@ -39,7 +39,7 @@ returns-clause-runs g c =
 
 pub returns-clause-stands : goal.returns-clause-stands
 returns-clause-stands g c =
-    let i = c.c.inside in let f : Face = record { number = i.number; prepared = i.prepared.items; pending = i.pending; call = i.call; fresh = i.fresh; locked = i.locked; inside = i.inside; depth = i.depth; whole = i.whole; free = i.free; drawn = i.drawn } in let h = c.c.invariant in let z = i.place.table_id in let me = i.place.me in let stream = words_of i.draws in let v = c.c.view_is in
+    let i = c.c.inside in let f : Face = record { number = i.number; prepared = i.prepared.items; pending = i.pending; call = i.call.value; fresh = i.fresh.value; locked = i.locked.value; inside = i.inside; depth = i.depth; whole = i.whole.value; free = i.free.value; drawn = i.drawn.value } in let h = c.c.invariant in let z = i.place.table_id in let me = i.place.me in let stream = words_of i.draws in let v = c.c.view_is in
     let at = c.args.at in
     let p = c.retire_by.new.place in let told = c.retire_by.ensures.told in
     let w = ap (λ (t : Token). t.whole) v ∙ c.requires.whole in

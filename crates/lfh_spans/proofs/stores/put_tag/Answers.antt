@@ -15,14 +15,14 @@ use Rattle.lfh_spans.proofs.stores.put_tag.Goals as goal
 
 pub put_tag_by-requires-clause-may : goal.put_tag_by-requires-clause-may
 put_tag_by-requires-clause-may g c =
-    let i = c.c.inside in let f : Face = record { number = i.number; prepared = i.prepared.items; pending = i.pending; call = i.call; fresh = i.fresh; locked = i.locked; inside = i.inside; depth = i.depth; whole = i.whole; free = i.free; drawn = i.drawn } in let h = c.c.invariant in let z = i.place.table_id in let me = i.place.me in let stream = words_of i.draws in let v = c.c.view_is in
+    let i = c.c.inside in let f : Face = record { number = i.number; prepared = i.prepared.items; pending = i.pending; call = i.call.value; fresh = i.fresh.value; locked = i.locked.value; inside = i.inside; depth = i.depth; whole = i.whole.value; free = i.free.value; drawn = i.drawn.value } in let h = c.c.invariant in let z = i.place.table_id in let me = i.place.me in let stream = words_of i.draws in let v = c.c.view_is in
     let page = c.args.page in let tag = c.args.tag in let o = ap (λ (t : Token). is_out whats.Back t.out) v ∙ c.requires.held in
     may_by z me f i.slot stream h (λ m n. (holds m.state.gate n whats.Back ≡ true) × (tag_word (lfh_spans m.state.back.area) page ≡ tag))
     (λ s q. (has_back z me f i.slot stream h o s q, subst (λ (t : Token). Always t (λ s. AreTagged (now s t) page 1 tag)) (sym v) c.requires.tag s q page (omega arith) (omega arith)))
 
 pub invariant_of-c : goal.invariant_of-c
 invariant_of-c g c =
-    let i = c.c.inside in let f : Face = record { number = i.number; prepared = i.prepared.items; pending = i.pending; call = i.call; fresh = i.fresh; locked = i.locked; inside = i.inside; depth = i.depth; whole = i.whole; free = i.free; drawn = i.drawn } in let h = c.c.invariant in let z = i.place.table_id in let me = i.place.me in let stream = words_of i.draws in let v = c.c.view_is in
+    let i = c.c.inside in let f : Face = record { number = i.number; prepared = i.prepared.items; pending = i.pending; call = i.call.value; fresh = i.fresh.value; locked = i.locked.value; inside = i.inside; depth = i.depth; whole = i.whole.value; free = i.free.value; drawn = i.drawn.value } in let h = c.c.invariant in let z = i.place.table_id in let me = i.place.me in let stream = words_of i.draws in let v = c.c.view_is in
     let p = c.put_tag_by.new.place in let told = c.put_tag_by.ensures.told in
     let w = ap (λ (t : Token). t.whole) v ∙ c.requires.whole in
     let go = goes_by z me f i.slot stream h p.me.0 (λ n. []) told.goes in
@@ -30,7 +30,7 @@ invariant_of-c g c =
 
 pub returns-clause-runs : goal.returns-clause-runs
 returns-clause-runs g c =
-    let i = c.c.inside in let f : Face = record { number = i.number; prepared = i.prepared.items; pending = i.pending; call = i.call; fresh = i.fresh; locked = i.locked; inside = i.inside; depth = i.depth; whole = i.whole; free = i.free; drawn = i.drawn } in let h = c.c.invariant in let z = i.place.table_id in let me = i.place.me in let stream = words_of i.draws in let v = c.c.view_is in
+    let i = c.c.inside in let f : Face = record { number = i.number; prepared = i.prepared.items; pending = i.pending; call = i.call.value; fresh = i.fresh.value; locked = i.locked.value; inside = i.inside; depth = i.depth; whole = i.whole.value; free = i.free.value; drawn = i.drawn.value } in let h = c.c.invariant in let z = i.place.table_id in let me = i.place.me in let stream = words_of i.draws in let v = c.c.view_is in
     let p = c.put_tag_by.new.place in let told = c.put_tag_by.ensures.told in
     let w = ap (λ (t : Token). t.whole) v ∙ c.requires.whole in
     let go = goes_by z me f i.slot stream h p.me.0 (λ n. []) told.goes in
@@ -38,7 +38,7 @@ returns-clause-runs g c =
 
 pub returns-clause-stands : goal.returns-clause-stands
 returns-clause-stands g c =
-    let i = c.c.inside in let f : Face = record { number = i.number; prepared = i.prepared.items; pending = i.pending; call = i.call; fresh = i.fresh; locked = i.locked; inside = i.inside; depth = i.depth; whole = i.whole; free = i.free; drawn = i.drawn } in let h = c.c.invariant in let z = i.place.table_id in let me = i.place.me in let stream = words_of i.draws in let v = c.c.view_is in
+    let i = c.c.inside in let f : Face = record { number = i.number; prepared = i.prepared.items; pending = i.pending; call = i.call.value; fresh = i.fresh.value; locked = i.locked.value; inside = i.inside; depth = i.depth; whole = i.whole.value; free = i.free.value; drawn = i.drawn.value } in let h = c.c.invariant in let z = i.place.table_id in let me = i.place.me in let stream = words_of i.draws in let v = c.c.view_is in
     let p = c.put_tag_by.new.place in let told = c.put_tag_by.ensures.told in
     let w = ap (λ (t : Token). t.whole) v ∙ c.requires.whole in
     let go = goes_by z me f i.slot stream h p.me.0 (λ n. []) told.goes in

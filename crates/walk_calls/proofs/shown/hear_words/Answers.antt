@@ -11,7 +11,7 @@ use Rattle.walk_calls.proofs.shown.hear_words.Goals as goal
 pub invariant_of-c : goal.invariant_of-c
 invariant_of-c c =
     let i = c.c.inside in
-    let f : Face = record { number = i.number; prepared = i.prepared.items; pending = i.pending; call = i.call; fresh = i.fresh; locked = i.locked; inside = i.inside; depth = i.depth; whole = i.whole; free = i.free; drawn = i.drawn } in
+    let f : Face = record { number = i.number; prepared = i.prepared.items; pending = i.pending; call = i.call.value; fresh = i.fresh.value; locked = i.locked.value; inside = i.inside; depth = i.depth; whole = i.whole.value; free = i.free.value; drawn = i.drawn.value } in
     let h = c.c.invariant in
     let z = i.place.table_id in
     let me = i.place.me in
@@ -25,7 +25,7 @@ invariant_of-c c =
 pub returns-clause-runs : goal.returns-clause-runs
 returns-clause-runs c =
     let i = c.c.inside in
-    let f : Face = record { number = i.number; prepared = i.prepared.items; pending = i.pending; call = i.call; fresh = i.fresh; locked = i.locked; inside = i.inside; depth = i.depth; whole = i.whole; free = i.free; drawn = i.drawn } in
+    let f : Face = record { number = i.number; prepared = i.prepared.items; pending = i.pending; call = i.call.value; fresh = i.fresh.value; locked = i.locked.value; inside = i.inside; depth = i.depth; whole = i.whole.value; free = i.free.value; drawn = i.drawn.value } in
     let h = c.c.invariant in
     let z = i.place.table_id in
     let me = i.place.me in
@@ -40,7 +40,7 @@ returns-clause-runs c =
 pub returns-clause-stands : goal.returns-clause-stands
 returns-clause-stands c =
     let i = c.c.inside in
-    let f : Face = record { number = i.number; prepared = i.prepared.items; pending = i.pending; call = i.call; fresh = i.fresh; locked = i.locked; inside = i.inside; depth = i.depth; whole = i.whole; free = i.free; drawn = i.drawn } in
+    let f : Face = record { number = i.number; prepared = i.prepared.items; pending = i.pending; call = i.call.value; fresh = i.fresh.value; locked = i.locked.value; inside = i.inside; depth = i.depth; whole = i.whole.value; free = i.free.value; drawn = i.drawn.value } in
     let h = c.c.invariant in
     let z = i.place.table_id in
     let me = i.place.me in
@@ -55,7 +55,7 @@ returns-clause-stands c =
 pub returns-clause-sound : goal.returns-clause-sound
 returns-clause-sound c =
     let i = c.c.inside in
-    let f : Face = record { number = i.number; prepared = i.prepared.items; pending = i.pending; call = i.call; fresh = i.fresh; locked = i.locked; inside = i.inside; depth = i.depth; whole = i.whole; free = i.free; drawn = i.drawn } in
+    let f : Face = record { number = i.number; prepared = i.prepared.items; pending = i.pending; call = i.call.value; fresh = i.fresh.value; locked = i.locked.value; inside = i.inside; depth = i.depth; whole = i.whole.value; free = i.free.value; drawn = i.drawn.value } in
     let h = c.c.invariant in
     let z = i.place.table_id in
     let me = i.place.me in
@@ -66,7 +66,7 @@ returns-clause-sound c =
 pub returns-clause-words : goal.returns-clause-words
 returns-clause-words c =
     let i = c.c.inside in
-    let f : Face = record { number = i.number; prepared = i.prepared.items; pending = i.pending; call = i.call; fresh = i.fresh; locked = i.locked; inside = i.inside; depth = i.depth; whole = i.whole; free = i.free; drawn = i.drawn } in
+    let f : Face = record { number = i.number; prepared = i.prepared.items; pending = i.pending; call = i.call.value; fresh = i.fresh.value; locked = i.locked.value; inside = i.inside; depth = i.depth; whole = i.whole.value; free = i.free.value; drawn = i.drawn.value } in
     let h = c.c.invariant in
     let z = i.place.table_id in
     let me = i.place.me in

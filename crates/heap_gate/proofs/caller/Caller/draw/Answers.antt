@@ -21,7 +21,7 @@ returns-clause-count g c =
 pub returns-clause-draw : goal.returns-clause-draw
 returns-clause-draw g c =
     let i = c.self.inside in let h = c.self.invariant in
-    let drawn : i.drawn ≡ false = ap (λ (t : Token). t.drawn) c.self.view_is ∙ c.requires.fresh in
+    let drawn : i.drawn.value ≡ false = ap (λ (t : Token). t.drawn) c.self.view_is ∙ c.requires.fresh in
     subst (λ (t : Token). Always t (λ s. c.draw.result.value ≡ draw_of s t.number ((now s t).now.calls t.number).searches)) c.self.view_is
     (λ s q.
     let made = searches_are s i.number i.place.me.0.seen i.prepared.items (legal_parts s i.place.me.0.seen (h.legal s q)).0 (h.prepared s q) in
